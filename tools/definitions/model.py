@@ -127,45 +127,30 @@ class Model:
 
     def rejection(self, script: Record, report: bytes) -> Optional[Tuple[int, int]]:
         """Returns the first entry that isn't as it should be, with the rule that it breaks."""
-        lines = self.of("Cut.lines_of", list(report))
-        count = self.count_of(script, lines)
-        if count is None:
-            return 0, 1
-        reader = EntryReader([bytes(buffer.name).decode() for buffer in script.buffers])
-        run = self.first_run(script)
-        for number in range(1, count + 1):
-            text = lines[number + 1] if number + 1 < len(lines) else None
-            entry = self.entry_of(script, reader, number, text)
-            rule = 2 if entry is None else self.broken(script, run.world, entry)
-            if rule:
-                return number, rule
-            run = self.of("Scheduled.stepped", script, run, some(entry.who))
-        if not self.is_over(script, run):
-            return count + 1, 5
-        return None if self.report(script, run) == report else (count + 1, 6)
+        words = EntryReader([bytes(buffer.name).decode() for buffer in script.buffers])
+        reader = Record({
+            "head": lambda lines: self.head_of(script, lines),
+            "entry": lambda number: lambda text: self.entry_of(script, words, number, text),
+            "same": lambda kind: lambda other: kind == other,
+        })  # fmt: skip
+        verdict = self.of("VerdictOf.verdict_of", reader, script, list(report))
+        return verdict.arguments[0] if verdict.name == "Some" else None
 
-    def count_of(self, script: Record, lines: List[List[int]]) -> Optional[int]:
-        """Returns how many entries a report says that it has; None where its first two lines aren't those of one."""
+    def head_of(self, script: Record, lines: List[List[int]]) -> Variant:
+        """Reads how many entries a report says that it has, with the lines after that; None where its first two lines aren't those of one."""
         if len(lines) < 2 or lines[0] != self.of("ReportText.report_head", script):
-            return None
+            return Variant("None")
         word = bytes(lines[1])[len(b"journal ") : -1]
         if not word.isdigit() or bytes(lines[1]) != b"journal %d\n" % int(word) or not self.of("Readable.is_u64", int(word)):
-            return None
-        return int(word)
+            return Variant("None")
+        return some((int(word), lines[2:]))
 
-    def entry_of(self, script: Record, reader: EntryReader, number: int, text: Optional[List[int]]) -> Optional[Record]:
-        """Returns the entry by an actor of the script of which a line is the text; None where it is of none."""
-        entry = reader.entry(bytes(text).decode("latin-1")[:-1]) if text else None
+    def entry_of(self, script: Record, words: EntryReader, number: int, text: List[int]) -> Variant:
+        """Reads the entry by an actor of the script of which a line is the text; None where it is of none."""
+        entry = words.entry(bytes(text).decode("latin-1")[:-1])
         if entry is None or not self.of("Readable.is_readable", script, entry) or not self.of("Verdict.has_actor", script, entry.who):
-            return None
-        return entry if self.of("EntryText.entry_line", script, (number, entry)) == text else None
-
-    def broken(self, script: Record, world: Record, entry: Record) -> int:
-        """Returns the rule that an entry breaks, 0 where it is legal next."""
-        step = self.of("Next.next", script, world.state, entry.who)
-        if step.name == "Err" or self.of("Verdict.unshown", step.arguments[0]) != self.of("Verdict.unshown", entry.kind):
-            return 3
-        return 0 if self.of("Legal.shown_step", script, world, entry.who, step) == Variant("Ok", (entry,)) else 4
+            return Variant("None")
+        return some(entry) if self.of("EntryText.entry_line", script, (number, entry)) == text else Variant("None")
 
 
 def answer(words: List[str], given: Callable[[], bytes]) -> Tuple[int, bytes]:

@@ -310,9 +310,10 @@ def closure_of(name):
         found.pop(mark)
         found.append(path)
 
-    model = TOP / "crates" / "journal_model" / "specs"
-    for path in [TOP / "crates" / name] if "/" in name else sorted(model.glob(f"**/{name}.antt")):
-        visit(path)
+    if "/" in name:
+        visit(TOP / "crates" / name)
+    else:
+        visit(next((TOP / "crates" / "journal_model" / "specs").rglob(f"{name}.antt")))
     return found
 
 

@@ -1,4 +1,4 @@
-//! The aperture (GART) through which packets reach the pages of TT: of each page the frame to which it is mapped.
+//! The aperture (GART) through which packets reach the pages of TT: each page may be mapped to a frame.
 #![tactic(auto)]
 
 ghost use Rattle.std.specs.Prelude.{◌≡◌, ◌<◌, None, Some, IfOk, length, replicate, slice_set};
@@ -8,8 +8,8 @@ use std::alloc::Global;
 use std::marker::Model;
 use ttm_base::NoMemory;
 
-/// The frames of TT pages, seen as a list: of each page its frame, or None where the page isn't mapped.
-/// A call takes no memory but for `new`.
+/// The frames of TT pages, seen as a list: for each page its frame, or None where the page isn't mapped. Only `new` takes
+/// memory.
 #[derive(Drop)]
 pub struct Aperture {
     frames: Vec<Option<u32>>,
@@ -24,7 +24,7 @@ impl Model for Aperture {
 }
 
 impl Aperture {
-    /// An aperture of so many pages that maps none of them.
+    /// Returns an aperture of `pages` pages, of which none is mapped.
     pub fn new(alloc: Global, pages: u32) -> Result<Aperture, NoMemory>
         ensures { IfOk result (λ aper. aper ≡ replicate pages None) }
     {
@@ -32,7 +32,7 @@ impl Aperture {
         Ok(Aperture { frames })
     }
 
-    /// Maps a page to a frame.
+    /// Maps the page `page` to the frame `frame`.
     pub fn set(&mut self, page: u32, frame: u32)
         requires { page < length self.old }
         ensures after { self.new ≡ slice_set self.old page (Some frame) }
@@ -41,7 +41,7 @@ impl Aperture {
         self.frames[page as usize] = Some(frame);
     }
 
-    /// Takes the mapping of a page away.
+    /// Unmaps the page `page`.
     pub fn clear(&mut self, page: u32)
         requires { page < length self.old }
         ensures after { self.new ≡ slice_set self.old page None }
@@ -50,7 +50,7 @@ impl Aperture {
         self.frames[page as usize] = None;
     }
 
-    /// The frame to which a page is mapped.
+    /// Returns the frame to which the page `page` is mapped, or None where it isn't mapped.
     pub fn get(&self, page: u32) -> Option<u32>
         requires { page < length self.now }
         ensures { result ≡ frame_at self.now page }

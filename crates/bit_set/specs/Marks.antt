@@ -1,7 +1,7 @@
 -- A set of numbers below a length, as a mark for each.
 use Rattle.std.specs.Prelude.{◌≡◌, ℕ, ◌<◌, ◌≤◌, Bool, true, false, List, length, slice_index_or}
 
--- a number is in the set
+-- whether a number is in the set
 abbrev pub has : List Bool → ℕ → Bool
 has marks number = slice_index_or marks number false
 

@@ -7,7 +7,7 @@ use Rattle.std.specs.Int.{bit_at}
 unfoldable pub has_bit : List ℕ → ℕ → Bool
 has_bit words place = bit_at (slice_index words (place / 64)) (place % 64) == 1
 
--- the first word of a level, below so many levels
+-- the first word of a level, which has this number of levels above it
 abbrev pub level_start : ℕ → ℕ
 level_start zero = 0
 level_start (suc above) = 64 * level_start above + 1
@@ -20,7 +20,7 @@ pub record IsBitTree (first : ℕ) (words : List ℕ) : Type 0 where
   pub fits : length words ≤ first + 1
   pub tells : (place : ℕ) → place < first → has_bit words place ≡ not (slice_index words (place + 1) == 0)
 
--- the words have a bit for each of so many numbers, and no bit from there on
+-- the words have a bit for each of len numbers, and no bit from there on
 pub record IsKept (first len : ℕ) (words : List ℕ) : Type 0 where
   pub tree : IsBitTree first words
   pub room : first + len ≤ 64 * length words
@@ -31,19 +31,19 @@ pub record IsKept (first len : ℕ) (words : List ℕ) : Type 0 where
 abbrev pub marks_of : ℕ → ℕ → List ℕ → List Bool
 marks_of first len words = map (λ number. has_bit words (first + number)) (range_with_len 0 len)
 
--- where the numbers begin if there are so many words of them
+-- the first word of the numbers, where they take this number of words
 pub record IsBase (words base : ℕ) : Type 0 where
   pub depth : ℕ
   pub base_is : base ≡ level_start depth
   pub room : words ≤ 63 * base + 1
   pub small : base ≤ 2 * words
 
--- the bit of a number was put, and the bits above tell of it
+-- the bit of a number was set or cleared, and the bits above tell of it
 pub record IsPut (first place : ℕ) (on : Bool) (before after : List ℕ) : Type 0 where
   pub tree : IsBitTree first after
   pub numbers : (i : ℕ) → first ≤ i → has_bit after i ≡ (if i == place then on else has_bit before i)
 
--- the bits of a word that are within some, alone
+-- the bits of a word that are within some, and no others
 pub record IsPart (within : ℕ → Type 0) (word part : ℕ) : Type 0 where
   pub inside : (k : ℕ) → bit_at part k ≡ 1 → within k
   pub is : (k : ℕ) → bit_at part k ≡ 1 → bit_at word k ≡ 1

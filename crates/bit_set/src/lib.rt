@@ -17,7 +17,7 @@ mod words;
 #[derive(Drop)]
 pub struct BitSet {
     words: Vec<u64>,
-    /// The place of number 0.
+    /// The place of the number 0.
     first: usize,
     len: usize,
 }
@@ -49,7 +49,7 @@ impl BitSet {
         })
     }
 
-    /// Tells whether `number` is in the set.
+    /// Returns whether `number` is in the set.
     #[inline(always)]
     pub fn contains(&self, number: usize) -> bool
         requires { number < length self.now }
@@ -77,7 +77,7 @@ impl BitSet {
         clear_bit(&mut self.words, self.first + number);
     }
 
-    /// Finds the least number of the set that is not below `number`.
+    /// Finds the least number of the set that is not below `number`, or returns None where there is none.
     #[inline(always)]
     pub fn first_from(&self, number: usize) -> Option<usize>
         ensures some { IfSome result (λ m. IsFirstFrom self.now number m) }
@@ -90,7 +90,7 @@ impl BitSet {
         Some(place - self.first)
     }
 
-    /// Finds the greatest number of the set that is not above `number`.
+    /// Finds the greatest number of the set that is not above `number`, or returns None where there is none.
     #[inline(always)]
     pub fn last_to(&self, number: usize) -> Option<usize>
         requires { number < length self.now }

@@ -1,14 +1,14 @@
-//! Words of bits in levels: a bit of a level tells whether a word of the next level has a bit, and the last level has the bits of
-//! the numbers. The words stand level by level, where the first level is one word. A place is the index of a bit among them all,
-//! and the bit at a place above the last level tells of the word that is one past the place.
+//! Words of bits in levels: a bit of a level tells whether a word of the next level has a bit, and the last level has the
+//! bits of the numbers. The words are ordered level by level, where the first level is one word. A place is the index of a
+//! bit among all bits, and the bit at a place above the last level tells of the word whose index is one more than the place.
 
 ghost use Rattle.std.specs.Prelude.{◌≡◌, ℕ, ◌/◌, ◌^◌, ◌<◌, ◌≤◌, true, false, length, MatchOption};
 ghost use Rattle.bit_set.specs.Words.{has_bit, IsBase, IsBitTree, IsFirstBit, IsHighestBit, IsLastBit, IsPart, IsPut};
 
-/// How many bits a word has.
+/// The number of bits of a word.
 pub(crate) const WORD: usize = 64;
 
-/// Finds the first word of the last level, which has `words` words: how many words the levels above it have.
+/// Finds the first word of the last level, which has `words` words. Its index is the number of words in the levels above it.
 pub(crate) fn base_of(words: usize) -> usize
     requires { words ≤ 2 ^ 32 }
     ensures { IsBase words result }

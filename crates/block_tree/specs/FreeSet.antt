@@ -2,32 +2,32 @@
 use Rattle.std.specs.Prelude.{◌≡◌, ℕ, zero, suc, ◌+◌, ◌-◌, ◌*◌, ◌/◌, ◌%◌, ◌^◌, ◌<◌, ◌≤◌, ◌&&◌, ◌||◌, Bool, true, false, List, length, map, nat_le, nat_lt, slice_index_or}
 use Rattle.ttm_base.specs.ListWords.{count_from}
 
--- the page is free; pages past the marks are not
+-- whether the page is free; pages past the marks are not
 abbrev pub is_free : List Bool → ℕ → Bool
 is_free marks page = slice_index_or marks page false
 
--- the number of the other half of the block that has block n
+-- the number of the buddy of block n: the other half of the block that has it
 abbrev pub beside : ℕ → ℕ
 beside n = n + 1 - 2 * (n % 2)
 
--- where block n of order k stands among the blocks of all orders, of which the order o has one: those of order 0 first
+-- the position of block n of order k among the blocks of all orders up to o, which has one block: those of order 0 first
 abbrev pub place : ℕ → ℕ → ℕ → ℕ
 place o k n = 2 ^ suc o - 2 ^ suc o / 2 ^ k + n
 
--- block n of order k is in the set
+-- whether block n of order k is in the set
 abbrev pub has_block : ℕ → List Bool → ℕ → ℕ → Bool
 has_block o set k n = nat_le k o && (nat_lt n (2 ^ (o - k)) && slice_index_or set (place o k n) false)
 
--- a block of the set, of an order up to k, has the page
+-- whether a block of the set, of an order up to k, has the page
 abbrev pub is_covered : ℕ → List Bool → ℕ → ℕ → Bool
 is_covered o set zero page = has_block o set 0 (page / 2 ^ 0)
 is_covered o set (suc k) page = has_block o set (suc k) (page / 2 ^ suc k) || is_covered o set k page
 
--- whether each page below the size is in a block of the set
+-- a mark for each page below the size: whether it is in a block of the set
 abbrev pub marks_of : ℕ → ℕ → List Bool → List Bool
 marks_of o size set = map (is_covered o set o) (count_from 1 size 0)
 
--- blocks below a size of which no page is in two, and no two are the halves of one
+-- blocks below a size: no page is in two of them, and no two are buddies
 pub record AreApart (size : ℕ) (has : ℕ → ℕ → Bool) : Type 0 where
   pub within : (k n : ℕ) → has k n ≡ true → n * 2 ^ k + 2 ^ k ≤ size
   pub alone : (p k j : ℕ) → has k (p / 2 ^ k) ≡ true → has j (p / 2 ^ j) ≡ true → k ≡ j

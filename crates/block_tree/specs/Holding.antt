@@ -1,4 +1,4 @@
--- The blocks that are wanted, and the free blocks that have them.
+-- The blocks that a request wants, and the free blocks that have them.
 use Rattle.std.specs.Prelude.{◌≡◌, ℕ, ◌+◌, ◌-◌, ◌*◌, ◌/◌, ◌^◌, ◌≤◌, Bool, true, false, Option, Some, None}
 use Rattle.ttm_base.specs.Reach.{is_inside}
 use Rattle.ttm_base.specs.BuddyChoice.{block_around, is_free_block}
@@ -9,12 +9,12 @@ use Rattle.block_tree.specs.declared.request.Found.{Found}
 use Rattle.block_tree.specs.Searching.{numbered, IsAhead}
 use Rattle.block_tree.specs.Pieces.{IsWhole, LeastWholeOf, IsLeastWhole, IsFirstPiece, FirstPieceOf}
 
--- block i is inside the range of the request, and ends by the size
+-- block i is inside the range of the request, and ends within the size
 pub record CanTake (r : Request) (size i : ℕ) : Type 0 where
   pub inside : is_inside r.range (numbered r.order i) ≡ true
   pub end : i * 2 ^ r.order + 2 ^ r.order ≤ size
 
--- those blocks
+-- the blocks that the request can take
 pub record ArePieces (r : Request) (size : ℕ) (p : Pieces) : Type 0 where
   pub order : p.order ≡ r.order
   pub some : p.first ≤ p.last
@@ -30,14 +30,15 @@ PiecesOf r size (Some p) = ArePieces r size p
 abbrev pub IsFree : (ℕ → Bool) → ℕ → ℕ → ℕ → Type 0
 IsFree f size k n = IsWhole f size k (n * 2 ^ k)
 
--- it has one of the wanted blocks
+-- block n of order k has one of the wanted blocks, is free, and is part of no greater free block
 pub record IsHolder (f : ℕ → Bool) (size : ℕ) (p : Pieces) (k n : ℕ) : Type 0 where
   pub order : p.order ≤ k
   pub low : p.first / 2 ^ (k - p.order) ≤ n
   pub high : n ≤ p.last / 2 ^ (k - p.order)
   pub free : IsFree f size k n
 
--- block b is the first free block from block n of order k on: those of one order by their numbers, then those of the next order
+-- block b is the first free block from block n of order k on: those of one order by their numbers, then those of the next
+-- order
 pub record IsFirstFree (f : ℕ → Bool) (size k n : ℕ) (b : Block) : Type 0 where
   pub order : k ≤ b.order
   pub number : k ≡ b.order → n ≤ b.number
@@ -59,7 +60,7 @@ abbrev pub LastFreeOf : (ℕ → Bool) → ℕ → ℕ → ℕ → Option Block 
 LastFreeOf f size k n None = (i : ℕ) → i ≤ n → IsFree f size k i → ⊥
 LastFreeOf f size k n (Some b) = IsLastFree f size k n b
 
--- the lowest of the least order that has a wanted block
+-- block b is the lowest of the least order that has a wanted block
 pub record IsLowest (f : ℕ → Bool) (size : ℕ) (p : Pieces) (b : Block) : Type 0 where
   pub is : IsHolder f size p b.order b.number
   pub least : (j i : ℕ) → IsHolder f size p j i → (b.order ≤ j) × (b.order ≡ j → b.number ≤ i)
@@ -68,7 +69,7 @@ abbrev pub LowestOf : (ℕ → Bool) → ℕ → Pieces → Option Block → Typ
 LowestOf f size p None = (j i : ℕ) → IsHolder f size p j i → ⊥
 LowestOf f size p (Some b) = IsLowest f size p b
 
--- the first of an order that has a wanted block
+-- block b is the first of order k that has a wanted block
 pub record IsFirstHolder (f : ℕ → Bool) (size : ℕ) (p : Pieces) (topdown : Bool) (k : ℕ) (b : Block) : Type 0 where
   pub order : b.order ≡ k
   pub is : IsHolder f size p k b.number
@@ -78,7 +79,7 @@ abbrev pub FirstHolderOf : (ℕ → Bool) → ℕ → Pieces → Bool → ℕ �
 FirstHolderOf f size p topdown k None = (i : ℕ) → IsHolder f size p k i → ⊥
 FirstHolderOf f size p topdown k (Some b) = IsFirstHolder f size p topdown k b
 
--- the free block that has block n of order k
+-- block b is the free block that has block n of order k
 pub record IsAround (f : ℕ → Bool) (size k n : ℕ) (b : Block) : Type 0 where
   pub order : k ≤ b.order
   pub number : b.number ≡ n * 2 ^ k / 2 ^ b.order
@@ -99,7 +100,7 @@ abbrev pub FoundOf : (ℕ → Bool) → ℕ → Request → ℕ → Option Found
 FoundOf f size r k None = FirstPieceOf f size r.range r.topdown r.order k None
 FoundOf f size r k (Some found) = IsFound f size r k found
 
--- the same, of the least order from which a piece can be split
+-- the piece is the first that would be split from a free block of the least order from which one can be split
 pub record IsChosen (f : ℕ → Bool) (size : ℕ) (r : Request) (found : Found) : Type 0 where
   pub least : IsLeastWhole f size r.range r.order found.free.order
   pub is : IsFound f size r found.free.order found

@@ -1,4 +1,4 @@
--- Blocks that would be split from the largest free blocks, told by the free pages alone.
+-- Blocks that would be split from the largest free blocks, specified by the free pages alone.
 use Rattle.std.specs.Prelude.{◌≡◌, ℕ, ◌+◌, ◌*◌, ◌^◌, ◌≤◌, Bool, true, false, Option, Some, None}
 use Rattle.ttm_base.specs.declared.Span.{Span}
 use Rattle.ttm_base.specs.Reach.{is_inside}

@@ -4,14 +4,14 @@ ghost use Rattle.block_tree.specs.Searching.{numbered};
 
 use ttm_base::Span;
 
-/// A block by its order and its number among those of its order.
+/// A block, by its order and its number among the blocks of that order.
 #[derive(Clone, Copy)]
 pub struct Block {
     pub order: u32,
     pub number: u32,
 }
 
-/// The pages of a block of an order.
+/// Returns the size in pages of a block of the order `order`.
 pub fn block_len(order: u32) -> u32
     requires { order ≤ 31 }
     ensures value { result ≡ 2 ^ order }
@@ -22,7 +22,7 @@ pub fn block_len(order: u32) -> u32
 }
 
 impl Block {
-    /// The other half of the block that has it.
+    /// Returns the buddy of the block: the other half of the block of which this one is a half.
     #[inline(always)]
     pub(crate) fn beside(self) -> Block
         ensures order { result.order ≡ self.order }
@@ -34,7 +34,7 @@ impl Block {
         }
     }
 
-    /// The block of which it is a half.
+    /// Returns the block of which this one is a half.
     #[inline(always)]
     pub(crate) fn above(self) -> Block
         requires { self.order < 4294967295 }
@@ -47,7 +47,7 @@ impl Block {
         }
     }
 
-    /// Its pages.
+    /// Returns the pages of the block.
     #[inline(always)]
     pub(crate) fn pages(self) -> Span
         requires order { self.order ≤ 31 }

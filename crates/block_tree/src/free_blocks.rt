@@ -14,13 +14,13 @@ use std::alloc::Global;
 use std::marker::Model;
 use ttm_base::{NoMemory, Span, log2, order_of};
 
-/// The free pages among a number of pages: each block that is wholly free and part of no greater such block is in a set. The
-/// blocks are numbered those of order 0 first, then those of order 1 and so on; the one that has all pages is the last but one.
-/// It is seen as a mark for each page, whether it is free. A call takes no memory but for `new`.
+/// The free pages of a memory type: each block that is wholly free and part of no greater such block is in a set. The blocks
+/// of order 0 are numbered first, then those of order 1 and so on; the one that has all pages is the last but one. It is
+/// seen as a mark for each page that tells whether it is free. Only `new` takes memory.
 #[derive(Drop)]
 pub struct FreeBlocks {
     blocks: BitSet,
-    /// Twice as many as there are blocks of order 0.
+    /// Twice the number of blocks of order 0.
     count: usize,
     order: u32,
     size: u32,
@@ -38,7 +38,7 @@ impl Model for FreeBlocks {
     ghost invariant = { λ b. IsKept b.count b.order b.size b.blocks };
 }
 
-/// Where a block stands, of a number of blocks of all orders.
+/// Returns the number of a block among the blocks of all orders, where `count` is twice the number of blocks of order 0.
 #[inline(always)]
 fn place(count: usize, block: Block) -> usize
     requires order { block.order ≤ 31 }
@@ -48,7 +48,7 @@ fn place(count: usize, block: Block) -> usize
     count - (count >> block.order) + block.number as usize
 }
 
-/// The block that stands at a place, among the blocks of all orders up to one.
+/// Returns the block with the number `at` among the blocks of all orders up to `order`.
 #[inline(always)]
 fn block_at(count: usize, order: u32, at: usize) -> Block
     requires count { count ≡ 2 ^ suc order }
@@ -66,7 +66,7 @@ fn block_at(count: usize, order: u32, at: usize) -> Block
     }
 }
 
-/// The largest block that begins at a page and has only pages below another.
+/// Returns the largest block that begins at page `start` and has only pages below `end`.
 fn largest_at(start: u32, end: u32) -> Block
     requires some { start < end }
     ensures order { result.order ≤ 31 }
@@ -81,7 +81,7 @@ fn largest_at(start: u32, end: u32) -> Block
 }
 
 impl FreeBlocks {
-    /// So many pages, all of them held.
+    /// Returns `pages` pages, all of them held.
     fn all_held(alloc: Global, pages: u32) -> Result<FreeBlocks, NoMemory>
         requires { pages < 2 ^ 31 }
         ensures size { IfOk result (λ blocks. length blocks ≡ pages) }
@@ -98,7 +98,7 @@ impl FreeBlocks {
         })
     }
 
-    /// So many free pages.
+    /// Returns `pages` pages, all of them free.
     pub fn new(alloc: Global, pages: u32) -> Result<FreeBlocks, NoMemory>
         requires { pages < 2 ^ 31 }
         ensures size { IfOk result (λ blocks. length blocks ≡ pages) }
@@ -115,7 +115,7 @@ impl FreeBlocks {
         Ok(blocks)
     }
 
-    /// The number of pages.
+    /// Returns the number of pages.
     pub fn size(&self) -> u32
         ensures value { result ≡ length self.now }
         ensures small { result < 2 ^ 31 }
@@ -123,7 +123,7 @@ impl FreeBlocks {
         self.size
     }
 
-    /// Takes a free block out of the set: its pages are held.
+    /// Removes a free block from the set, so that its pages are held.
     #[inline(always)]
     fn remove(&mut self, block: Block)
         requires { IsFree (is_free self.old) (length self.old) block.order block.number }
@@ -133,7 +133,7 @@ impl FreeBlocks {
         self.blocks.clear(place(self.count, block));
     }
 
-    /// Puts a block into the set, whose pages are held: they are free.
+    /// Adds a block, whose pages are held, to the set, so that its pages are free.
     #[inline(always)]
     fn add(&mut self, block: Block)
         requires end { block.number * 2 ^ block.order + 2 ^ block.order ≤ length self.old }
@@ -145,7 +145,7 @@ impl FreeBlocks {
         self.blocks.set(place(self.count, block));
     }
 
-    /// The half beside a block is free, and part of no greater free block.
+    /// Returns whether the buddy of a block is free, and part of no greater free block.
     #[inline(always)]
     fn has_beside(&self, block: Block) -> bool
         requires { block.number * 2 ^ block.order + 2 ^ block.order ≤ length self.now }
@@ -159,7 +159,7 @@ impl FreeBlocks {
         self.blocks.contains(place(self.count, block.beside()))
     }
 
-    /// The free block that has a block.
+    /// Finds the free block that is a block or has it.
     fn around(&self, block: Block) -> Option<Block>
         requires { block.number * 2 ^ block.order + 2 ^ block.order ≤ length self.now }
         ensures around { AroundOf (is_free self.now) (length self.now) block.order block.number result }
@@ -177,7 +177,8 @@ impl FreeBlocks {
         None
     }
 
-    /// The first free block from a block on: those of one order by their numbers, then those of the next order.
+    /// Finds the first free block from the block `from` on: those of its order by their numbers, then those of the next
+    /// order, and so on.
     #[inline(always)]
     fn first_from(&self, from: Block) -> Option<Block>
         requires { from.number * 2 ^ from.order < length self.now }
@@ -191,7 +192,7 @@ impl FreeBlocks {
         Some(block_at(self.count, self.order, at))
     }
 
-    /// The last free block of an order up to a block.
+    /// Finds the last free block of an order up to the block `to`.
     #[inline(always)]
     fn last_to(&self, to: Block) -> Option<Block>
         requires { to.number * 2 ^ to.order < length self.now }
@@ -209,7 +210,7 @@ impl FreeBlocks {
         }
     }
 
-    /// The blocks that a request can take.
+    /// Returns the blocks that a request can take, or None where there are none.
     #[inline(always)]
     fn pieces(&self, request: Request) -> Option<Pieces>
         ensures pieces { PiecesOf request (length self.now) result }
@@ -222,7 +223,7 @@ impl FreeBlocks {
         request.pieces(self.size)
     }
 
-    /// The lowest free block of the least order that has a wanted block.
+    /// Finds the lowest free block that has a wanted block, among those of the least order with such a block.
     fn lowest(&self, pieces: Pieces) -> Option<Block>
         requires order { pieces.order ≤ 31 }
         requires some { pieces.first ≤ pieces.last }
@@ -244,7 +245,7 @@ impl FreeBlocks {
         }
     }
 
-    /// The lowest free block of an order that has a wanted block.
+    /// Finds the lowest free block of the order `order` that has a wanted block.
     #[inline(always)]
     fn lowest_of(&self, pieces: Pieces, order: u32) -> Option<Block>
         requires order { pieces.order ≤ order }
@@ -266,7 +267,7 @@ impl FreeBlocks {
         }
     }
 
-    /// The highest free block of an order that has a wanted block.
+    /// Finds the highest free block of the order `order` that has a wanted block.
     #[inline(always)]
     fn highest_of(&self, pieces: Pieces, order: u32) -> Option<Block>
         requires order { pieces.order ≤ order }
@@ -284,7 +285,7 @@ impl FreeBlocks {
         }
     }
 
-    /// The first free block of an order that has a wanted block.
+    /// Finds the free block of the order `order` that has a wanted block: the lowest, or for `topdown` the highest.
     #[inline(always)]
     fn first_of(&self, pieces: Pieces, topdown: bool, order: u32) -> Option<Block>
         requires order { pieces.order ≤ order }
@@ -300,7 +301,8 @@ impl FreeBlocks {
         }
     }
 
-    /// The first free block that has a wanted block, of the order of the lowest of the least order.
+    /// Finds the free block that has a wanted block, among those of the order of `lowest`, which is the lowest one of the
+    /// least order: `lowest` itself, or for `topdown` the highest.
     #[inline(always)]
     fn first_or(&self, pieces: Pieces, topdown: bool, lowest: Block) -> Option<Block>
         requires small { lowest.order ≤ 31 }
@@ -316,7 +318,7 @@ impl FreeBlocks {
         }
     }
 
-    /// The first wanted block that would be split from a free block of an order.
+    /// Finds the wanted block that would be split first from a free block of the order `order`.
     #[inline(always)]
     fn find(&self, request: Request, order: u32) -> Option<Found>
         requires order { request.order ≤ order }
@@ -330,7 +332,7 @@ impl FreeBlocks {
         Some(Found { free, piece })
     }
 
-    /// The same, from a free block of the least order from which one can be split.
+    /// Finds the wanted block that would be split first from a free block of the least order from which one can be split.
     #[inline(always)]
     fn choose(&self, request: Request) -> Option<Found>
         ensures chosen { ChosenOf (is_free self.now) (length self.now) request result }
@@ -357,7 +359,7 @@ impl FreeBlocks {
         }
     }
 
-    /// Gives back a block of which all pages are held.
+    /// Gives back a block, all of whose pages are held.
     fn give_block(&mut self, held: Block)
         requires end { held.number * 2 ^ held.order + 2 ^ held.order ≤ length self.old }
         requires held { (page : ℕ) → page / 2 ^ held.order ≡ held.number → is_free self.old page ≡ false }
@@ -372,7 +374,7 @@ impl FreeBlocks {
         self.add(block);
     }
 
-    /// Marks the pages of a block as held that isn't free, nor part of a free one.
+    /// Marks the pages of a block as held. The block is neither free nor part of a free one.
     fn clear_inside(&mut self, block: Block)
         requires end { block.number * 2 ^ block.order + 2 ^ block.order ≤ length self.old }
         requires small { length self.old < 2 ^ 31 }
@@ -445,7 +447,8 @@ impl FreeBlocks {
         }
     }
 
-    /// Marks the pages of a span as free, of which none is. It looks for no free blocks inside the span, as `mark` does.
+    /// Marks the pages of a span, all of which are held, as free. It doesn't look for free blocks inside the span, as `mark`
+    /// does.
     pub fn give(&mut self, span: Span)
         requires end { span.end ≤ length self.old }
         requires held { (page : ℕ) → has_page page span ≡ true → is_free self.old page ≡ false }
@@ -460,7 +463,7 @@ impl FreeBlocks {
         }
     }
 
-    /// The least order of the free blocks from which a block of an order inside a range can be split.
+    /// Finds the least order of the free blocks from which a block of the order `order` inside a range can be split.
     pub fn least_whole(&self, range: Span, order: u32) -> Option<u32>
         ensures least { LeastWholeOf (is_free self.now) (length self.now) range order result }
         ensures small { IfSome result (λ whole. whole < 32) }
@@ -475,8 +478,8 @@ impl FreeBlocks {
         Some(block.order)
     }
 
-    /// The first block of an order inside a range that would be split from a free block of a second order: the lowest, or for
-    /// topdown the highest.
+    /// Finds the block of the order `order` inside a range that would be split first from a free block of the order `whole`:
+    /// the lowest, or for `topdown` the highest.
     pub fn first_piece(&self, range: Span, topdown: bool, order: u32, whole: u32) -> Option<Span>
         requires order { order ≤ whole }
         requires whole { whole < 32 }
@@ -493,8 +496,8 @@ impl FreeBlocks {
         Some(found.piece.pages())
     }
 
-    /// The free block of an order inside a range that is split from the smallest: among equals the lowest, or for topdown the
-    /// highest.
+    /// Finds the free block of the order `order` inside a range that is split from the smallest free block: among equals the
+    /// lowest, or for `topdown` the highest. None means that there is no such block.
     pub fn candidate(&self, range: Span, topdown: bool, order: u32) -> Option<Span>
         ensures choice { (test : ℕ → Bool) → ((page : ℕ) → page < length self.now → test page ≡ is_free self.now page) → option_map (λ c. c.block) (candidate test (length self.now) range topdown order) ≡ result }
         ensures free { IfSome result (λ block. (page : ℕ) → has_page page block ≡ true → is_free self.now page ≡ true) }
@@ -511,7 +514,8 @@ impl FreeBlocks {
         Some(found.piece.pages())
     }
 
-    /// Takes the block that `candidate` answers: it is held from then on.
+    /// Takes the block that `candidate` returns, which is then held. None means that there is no such block, and changes
+    /// nothing.
     pub fn take(&mut self, range: Span, topdown: bool, order: u32) -> Option<Span>
         ensures choice { (test : ℕ → Bool) → ((page : ℕ) → page < length self.old → test page ≡ is_free self.old page) → option_map (λ c. c.block) (candidate test (length self.old) range topdown order) ≡ result }
         ensures size { length self.new ≡ length self.old }

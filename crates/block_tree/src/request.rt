@@ -4,7 +4,8 @@ ghost use Rattle.block_tree.specs.Holding.{PiecesOf};
 use crate::block::{Block, block_len};
 use ttm_base::Span;
 
-/// A block that is wanted: its order, the pages in which it has to lie, and whether the highest is taken in place of the lowest.
+/// A request for a block: its order, the pages in which it has to lie, and whether the highest block is taken instead of the
+/// lowest.
 #[derive(Clone, Copy)]
 pub struct Request {
     pub order: u32,
@@ -12,7 +13,7 @@ pub struct Request {
     pub topdown: bool,
 }
 
-/// The blocks that a request can take, by their numbers: those from `first` up to `last`.
+/// The blocks that a request can take, by their numbers, from `first` to `last`, both included.
 #[derive(Clone, Copy)]
 pub struct Pieces {
     pub order: u32,
@@ -20,7 +21,7 @@ pub struct Pieces {
     pub last: u32,
 }
 
-/// A block that is wanted, and the free block that has it.
+/// A wanted block, and the free block that has it.
 #[derive(Clone, Copy)]
 pub struct Found {
     pub free: Block,
@@ -28,7 +29,7 @@ pub struct Found {
 }
 
 impl Request {
-    /// The blocks below a size that it can take.
+    /// Returns the blocks below page `size` that the request can take, or None where there are none.
     pub(crate) fn pieces(self, size: u32) -> Option<Pieces>
         requires { self.order ≤ 31 }
         ensures { PiecesOf self size result }
@@ -54,7 +55,7 @@ impl Request {
 }
 
 impl Pieces {
-    /// The first of them that is in a free block.
+    /// Returns the first of the wanted blocks that is in a free block: the lowest, or for `topdown` the highest.
     pub(crate) fn first_in(self, free: Block, topdown: bool) -> Block
         requires order { self.order ≤ free.order }
         requires small { free.order ≤ 31 }

@@ -13,7 +13,7 @@ use Rattle.journal_model.specs.rules.State.{no_reservation, new_buffer, changed,
 use Rattle.journal_model.specs.rules.ApplyMoves.{table_left}
 use Rattle.bo_table.specs.declared.bo.Bo.{Bo}
 
--- by declared number. Of all the fences of a buffer there are the latest job of each context and usage. A dead buffer has its pages and
+-- the buffers by declared number. Of all the fences of a buffer the latest job of each context and usage is kept. A dead buffer has its pages and
 -- contexts, too
 pub record Bos : Type 0 where
   pub buffers : List (Option Buffer)
@@ -39,46 +39,46 @@ seen bos =
       pages = map (λ bo. length bo.table) bos;
     }
 
--- the buffer of that number
+-- `bo` is buffer `b` of the table
 pub record IsBo (t : Bos) (b : BufId) (bo : Bo) : Type 0 where
   pub body : slice_get t.buffers b.0 ≡ Some (body_of bo)
   pub reservation : slice_get t.reservations b.0 ≡ Some (reservation_of bo)
   pub fences : slice_get t.fences b.0 ≡ Some bo.resv.fences
   pub pages : slice_get t.pages b.0 ≡ Some (length bo.table)
 
--- dead, with so many pages, and sets of jobs of so many contexts
+-- the buffer is dead, with `count` pages, and with sets of jobs of `contexts` contexts
 pub record IsDead (count contexts : ℕ) (bo : Bo) : Type 0 where
   pub body : body_of bo ≡ None
   pub reservation : reservation_of bo ≡ no_reservation
   pub fences : bo.resv.fences ≡ replicate contexts nothing_kept
   pub pages : length bo.table ≡ count
 
--- at its target in a memory type, as after a move but for the job
+-- the buffer at its target in the memory type, as after a move but for the job
 abbrev pub carried : Mem → Buffer → Buffer
 carried mem x = record x { mem = mem; spans = target_spans mem x; targets = with_target mem None x.targets; table = table_left x.mem x.table }
 
--- the buffer is another one, where it is live, and all else stays
+-- the buffer is changed by `f`, where it is live, and all else stays
 pub record IsChanged (f : Buffer → Buffer) (old new : Bo) : Type 0 where
   pub body : body_of new ≡ option_map f (body_of old)
   pub reservation : reservation_of new ≡ reservation_of old
   pub fences : new.resv.fences ≡ old.resv.fences
   pub pages : length new.table ≡ length old.table
 
--- it is held otherwise, and all else stays
+-- the reservation is changed by `f`, and all else stays
 pub record IsReservationChanged (f : Reservation → Reservation) (old new : Bo) : Type 0 where
   pub body : body_of new ≡ body_of old
   pub reservation : reservation_of new ≡ f (reservation_of old)
   pub fences : new.resv.fences ≡ old.resv.fences
   pub pages : length new.table ≡ length old.table
 
--- made again, or dead, with nothing that holds or uses it
+-- the buffer is made again, or dead, with nothing that holds or uses it
 pub record IsReset (o : Option Buffer) (old new : Bo) : Type 0 where
   pub body : body_of new ≡ o
   pub reservation : reservation_of new ≡ no_reservation
   pub fences : new.resv.fences ≡ replicate (length old.resv.fences) nothing_kept
   pub pages : length new.table ≡ length old.table
 
--- one job more uses it, and all else stays
+-- one more job uses the buffer, and all else stays
 pub record IsUsed (job : JobId) (how : Usage) (old new : Bo) : Type 0 where
   pub body : body_of new ≡ body_of old
   pub reservation : reservation_of new ≡ reservation_of old
@@ -87,7 +87,7 @@ pub record IsUsed (job : JobId) (how : Usage) (old new : Bo) : Type 0 where
 
 -- ---- tables
 
--- all buffers dead
+-- the table with all buffers dead
 abbrev pub first_bos : List Decl → ℕ → Bos
 first_bos decls contexts =
     record {
@@ -97,7 +97,7 @@ first_bos decls contexts =
       pages = map (λ d. d.pages) decls;
     }
 
--- no job, in each context
+-- the set without a job, for each context
 abbrev pub without_jobs : List Latest → List Latest
 without_jobs set = replicate (length set) nothing_kept
 
@@ -105,7 +105,7 @@ without_jobs set = replicate (length set) nothing_kept
 abbrev pub fences_at : List (List Latest) → BufId → List Latest
 fences_at fences b = unwrap_or (slice_get fences b.0) []
 
--- the buffer reset, its pages kept
+-- the table with buffer `b` reset, its pages kept
 abbrev pub with_reset : Option Buffer → Bos → BufId → Bos
 with_reset o t b =
     record {
@@ -115,22 +115,22 @@ with_reset o t b =
       pages = t.pages;
     }
 
--- live in SYSTEM, with no page, pin, holder, target or job
+-- the table with buffer `b` live in SYSTEM, with no page, pin, holder, target or job
 abbrev pub with_made : Bos → BufId → Bos
 with_made t b = with_reset (Some (new_buffer (unwrap_or (slice_get t.pages b.0) 0))) t b
 
--- dead
+-- the table with buffer `b` dead
 abbrev pub with_killed : Bos → BufId → Bos
 with_killed t b = with_reset None t b
 
--- with another buffer in its place, if it is live
+-- the table with buffer `b` changed by `f`, if it is live
 abbrev pub with_changed : (Buffer → Buffer) → Bos → BufId → Bos
 with_changed f t b = record t { buffers = changed f t.buffers b }
 
--- with another reservation of one buffer
+-- the table with the reservation of buffer `b` changed by `f`
 abbrev pub with_reservation : (Reservation → Reservation) → Bos → BufId → Bos
 with_reservation f t b = record t { reservations = reservation_changed f t.reservations b }
 
--- with one job more of a buffer
+-- the table with one more job that uses buffer `b`
 abbrev pub with_use : JobId → Usage → Bos → BufId → Bos
 with_use job how t b = record t { fences = slice_set t.fences b.0 (added (fences_at t.fences b) job how) }

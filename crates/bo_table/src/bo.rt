@@ -15,7 +15,7 @@ use resv_object::Resv;
 use std::alloc::Global;
 use ttm_base::{JobId, Loc, Mem, NoMemory, Spans, Stamp, Usage};
 
-/// Nothing waits for a buffer.
+/// Returns the targets of a buffer that has none.
 fn no_targets() -> Targets
     ensures { result ≡ words.no_targets }
 {
@@ -26,7 +26,7 @@ fn no_targets() -> Targets
     }
 }
 
-/// Puts another target, or none, in a memory type.
+/// Sets the target in the memory type `mem` to `spans`, or to none.
 fn set_target(targets: &mut Targets, mem: Mem, spans: Option<Spans>)
     ensures { targets.new ≡ with_target mem spans targets.old }
 {
@@ -37,7 +37,7 @@ fn set_target(targets: &mut Targets, mem: Mem, spans: Option<Spans>)
     }
 }
 
-/// A target becomes the place where the buffer stands.
+/// Makes `target` the place where the buffer stands; the target is then none.
 fn settle(spans: &mut Spans, target: &mut Option<Spans>)
     ensures place { spans.new ≡ unwrap_or target.old [] }
     ensures target { target.new ≡ None }
@@ -48,7 +48,7 @@ fn settle(spans: &mut Spans, target: &mut Option<Spans>)
     }
 }
 
-/// The target in a memory type becomes the place where the buffer stands.
+/// Makes the target in the memory type `mem` the place where the buffer stands.
 fn settle_in(spans: &mut Spans, targets: &mut Targets, mem: Mem)
     ensures place { spans.new ≡ unwrap_or (target_of mem targets.old) [] }
     ensures targets { targets.new ≡ with_target mem None targets.old }
@@ -60,7 +60,7 @@ fn settle_in(spans: &mut Spans, targets: &mut Targets, mem: Mem)
     }
 }
 
-/// Leaves the frames of a buffer that was in this memory type: out of TT they stay behind.
+/// Empties the page table of a buffer that was in TT, since a buffer that goes out of TT leaves its frames behind.
 fn leave_frames(mem: Mem, table: &mut PageTable)
     ensures { table.new ≡ table_left mem table.old }
 {
@@ -69,24 +69,24 @@ fn leave_frames(mem: Mem, table: &mut PageTable)
     }
 }
 
-/// A buffer (ttm_buffer_object). Where it is dead, all that counts is how many pages and contexts it has.
+/// A buffer (ttm_buffer_object). Where it is dead, only its numbers of pages and contexts count.
 pub struct Bo {
     pub alive: bool,
-    /// The memory type in which it stands.
+    /// The memory type in which the buffer stands.
     pub mem: Mem,
-    /// Its pages there; none in SYSTEM.
+    /// The buffer's pages there; none in SYSTEM.
     pub spans: Spans,
-    /// A place for each of its pages.
+    /// A place for each of the buffer's pages.
     pub table: PageTable,
-    /// The pages that were found for it and that it hasn't gone to yet.
+    /// The pages that were found for the buffer and that it hasn't gone to yet.
     pub targets: Targets,
-    /// How often it is pinned (pin_count).
+    /// The number of times that the buffer is pinned (pin_count).
     pub pins: u8,
-    /// Its holder, and the jobs that use it (dma_resv).
+    /// The buffer's holder, and the jobs that use it (dma_resv).
     pub resv: Resv,
 }
 
-/// By hand, so that no crate above proves how each part goes.
+/// Written by hand, so that no crate above has to prove how each part is dropped.
 impl Drop for Bo {
     fn drop(self) {
         let Self {
@@ -102,7 +102,7 @@ impl Drop for Bo {
 }
 
 impl Bo {
-    /// A dead buffer of so many pages.
+    /// Makes a dead buffer of `pages` pages.
     pub(crate) fn new(alloc: Global, pages: u32, contexts: u32) -> Result<Bo, NoMemory>
         ensures { IfOk result (λ bo. IsDead pages contexts bo) }
     {
@@ -119,7 +119,7 @@ impl Bo {
         })
     }
 
-    /// Makes it live in SYSTEM, with no page, pin, holder, target or job.
+    /// Makes the buffer live in SYSTEM, with no page, pin, holder, target or job.
     pub(crate) fn make(&mut self)
         ensures { IsReset (Some (new_buffer (length self.old.table))) self.old self.new }
     {
@@ -132,7 +132,7 @@ impl Bo {
         self.resv.clear();
     }
 
-    /// Makes it dead.
+    /// Makes the buffer dead.
     pub(crate) fn kill(&mut self)
         ensures { IsReset None self.old self.new }
     {
@@ -141,28 +141,28 @@ impl Bo {
         self.resv.clear();
     }
 
-    /// Gives a page another place.
+    /// Gives page `page` the place `place`.
     pub(crate) fn set_page(&mut self, page: u32, place: Loc)
         ensures { IsChanged (with_loc page place) self.old self.new }
     {
         self.table.set(page, place);
     }
 
-    /// Gives all frames back.
+    /// Drops all frames of the page table.
     pub(crate) fn drop_frames(&mut self)
         ensures { IsChanged without_frames self.old self.new }
     {
         self.table.drop_frames();
     }
 
-    /// Puts another target, or none, in a memory type.
+    /// Sets the target in the memory type `mem` to `spans`, or to none.
     pub(crate) fn set_target(&mut self, mem: Mem, spans: Option<Spans>)
         ensures { IsChanged (with_spans mem spans) self.old self.new }
     {
         set_target(&mut self.targets, mem, spans);
     }
 
-    /// Where it is in TT, it is to go to SYSTEM.
+    /// Gives the buffer an empty target in SYSTEM, if it stands in TT.
     pub(crate) fn leave_tt(&mut self, alloc: Global)
         ensures { IsChanged (λ x. leaves_tt x.mem x) self.old self.new }
     {
@@ -171,7 +171,7 @@ impl Bo {
         }
     }
 
-    /// Goes from SYSTEM to TT.
+    /// Moves the buffer from SYSTEM to its target in TT.
     pub(crate) fn bind(&mut self)
         ensures { IsChanged bound self.old self.new }
     {
@@ -179,7 +179,7 @@ impl Bo {
         settle(&mut self.spans, &mut self.targets.tt);
     }
 
-    /// Goes from TT to SYSTEM.
+    /// Moves the buffer from TT to SYSTEM.
     pub(crate) fn unbind(&mut self)
         ensures { IsChanged unbound self.old self.new }
     {
@@ -188,7 +188,7 @@ impl Bo {
         self.targets.system = None;
     }
 
-    /// Goes to its target in a memory type.
+    /// Moves the buffer to its target in the memory type `mem`.
     pub(crate) fn carry(&mut self, mem: Mem)
         ensures { IsChanged (carried mem) self.old self.new }
     {
@@ -197,7 +197,7 @@ impl Bo {
         self.mem = mem;
     }
 
-    /// Is held by a ticket.
+    /// Reserves the buffer for the ticket `stamp`.
     pub(crate) fn reserve(&mut self, stamp: Stamp)
         requires { self.old.resv.holder ≡ None }
         ensures { IsReservationChanged (with_holder (Some stamp)) self.old self.new }
@@ -205,7 +205,7 @@ impl Bo {
         let _taken = self.resv.try_take(stamp);
     }
 
-    /// Is held by nobody.
+    /// Ends the reservation of the buffer, if it is reserved.
     pub(crate) fn release(&mut self)
         ensures { IsReservationChanged (with_holder None) self.old self.new }
     {
@@ -214,7 +214,7 @@ impl Bo {
         }
     }
 
-    /// Is pinned once more.
+    /// Pins the buffer once more.
     pub(crate) fn pin(&mut self)
         requires { self.old.pins < 255 }
         ensures { IsReservationChanged pinned_more self.old self.new }
@@ -222,14 +222,14 @@ impl Bo {
         self.pins += 1;
     }
 
-    /// Is pinned once less, if it is pinned.
+    /// Takes one pin from the buffer, if it is pinned.
     pub(crate) fn unpin(&mut self)
         ensures { IsReservationChanged pinned_less self.old self.new }
     {
         self.pins = self.pins.saturating_sub(1);
     }
 
-    /// Is used by one job more.
+    /// Adds `job` to the jobs that use the buffer, as `usage` tells.
     pub(crate) fn add_fence(&mut self, job: JobId, usage: Usage)
         requires known { job.ctx < length self.old.resv.fences }
         requires num { 0 < job.num }

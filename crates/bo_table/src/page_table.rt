@@ -13,14 +13,14 @@ use std::alloc::Global;
 use std::marker::Model;
 use ttm_base::{Loc, NoMemory};
 
-/// It is a frame.
+/// Returns whether `place` is a frame.
 fn is_frame(place: Loc) -> bool
     ensures { result ≡ words.is_frame place }
 {
     matches!(place, Loc::Frame(_))
 }
 
-/// The place of a page once its frame was given back.
+/// Returns the place of a page after its frame was given back.
 fn without_its_frame(place: Loc) -> Loc
     ensures { result ≡ without_frame place }
 {
@@ -30,7 +30,7 @@ fn without_its_frame(place: Loc) -> Loc
     }
 }
 
-/// So many pages that are Zero.
+/// Returns a table of `pages` pages that are all Zero.
 fn zero_pages(alloc: Global, pages: u32) -> Result<Table, NoMemory>
     ensures { IfOk result (λ places. places ≡ replicate pages loc.Zero) }
 {
@@ -59,7 +59,7 @@ fn clear(places: &mut Table)
     }
 }
 
-/// How many pages have a frame once this page has this place.
+/// Returns how many pages have a frame once page `page` has the place `place`, where `frames` have one before.
 #[tactic(auto, using(crate::proofs::PageLaws::count_set))]
 fn frames_after(places: &Table, frames: u32, page: u32, place: Loc) -> u32
     requires count { frames ≡ frame_count places.now }
@@ -75,14 +75,14 @@ fn frames_after(places: &Table, frames: u32, page: u32, place: Loc) -> u32
     }
 }
 
-/// The position of the first page without a frame.
+/// Returns the position of the first page without a frame, or None where each has one.
 fn first_empty(places: &[Loc]) -> Option<usize>
     ensures { result ≡ position (λ l. not (words.is_frame l)) places.now }
 {
     places.iter().position(|place| !is_frame(*place))
 }
 
-/// How many pages at the front have frames.
+/// Returns how many pages at the front have frames.
 #[tactic(auto, using(crate::proofs::PageLaws::first_is_some, crate::proofs::PageLaws::first_is_none, crate::proofs::PageLaws::first_within))]
 fn filled_front(places: &[Loc]) -> usize
     ensures value { result ≡ first_unfilled places.now }
@@ -94,14 +94,14 @@ fn filled_front(places: &[Loc]) -> usize
     }
 }
 
-/// The position of the first page with a frame.
+/// Returns the position of the first page with a frame, or None where none has one.
 fn first_frame(places: &[Loc]) -> Option<usize>
     ensures { result ≡ position words.is_frame places.now }
 {
     places.iter().position(|place| is_frame(*place))
 }
 
-/// How many pages at the front have no frame.
+/// Returns how many pages at the front have no frame.
 #[tactic(auto, using(crate::proofs::PageLaws::first_is_some, crate::proofs::PageLaws::first_is_none, crate::proofs::PageLaws::first_within))]
 fn empty_front(places: &[Loc]) -> usize
     ensures value { result ≡ first_filled places.now }
@@ -113,8 +113,8 @@ fn empty_front(places: &[Loc]) -> usize
     }
 }
 
-/// The first page without a frame once this page has this place. Only where the first one gets a frame it looks at others, up to the next
-/// one without.
+/// Returns the first page without a frame once page `page` has the place `place`, where `first` is that before. Looks at other pages only where the
+/// first one gets a frame, up to the next one without.
 #[tactic(auto, using(crate::proofs::PageLaws::first_lower, crate::proofs::PageLaws::first_other, crate::proofs::PageLaws::first_raised))]
 fn first_unfilled_after(places: &Table, first: u32, page: u32, place: Loc) -> u32
     requires first { first ≡ first_unfilled places.now }
@@ -132,8 +132,8 @@ fn first_unfilled_after(places: &Table, first: u32, page: u32, place: Loc) -> u3
     }
 }
 
-/// The first page with a frame once this page has this place, and so many pages have one. Only where the first one loses its frame, and
-/// others have one, it looks at others, up to the next one with a frame.
+/// Returns the first page with a frame once page `page` has the place `place`, where `frames` pages then have one and `first` is the first before.
+/// Looks at other pages only where the first one loses its frame and others have one, up to the next one with a frame.
 #[tactic(auto, using(crate::proofs::PageLaws::first_lower, crate::proofs::PageLaws::first_other, crate::proofs::PageLaws::first_raised))]
 fn first_filled_after(places: &Table, frames: u32, first: u32, page: u32, place: Loc) -> u32
     requires count { frames ≡ frame_count (slice_set places.now page place) }
@@ -154,15 +154,15 @@ fn first_filled_after(places: &Table, frames: u32, first: u32, page: u32, place:
     }
 }
 
-/// Where the pages of a buffer stand, by number (ttm_tt). It keeps how many of them have a frame, the first one that has none, and the first
-/// one that has one, so that to fill a buffer looks at each page once, and so does to swap it out.
+/// The places of a buffer's pages, by number (ttm_tt). It keeps how many of them have a frame, the first one that has none, and the first one that
+/// has one, so that filling a buffer looks at each page once, and so does swapping it out.
 #[derive(Drop)]
 pub struct PageTable {
     places: Table,
     frames: u32,
-    /// The first page without a frame; as many as there are, where each has one.
+    /// The first page without a frame, or the number of pages where each has one.
     unfilled: u32,
-    /// The first page with a frame; as many as there are, where none has one.
+    /// The first page with a frame, or the number of pages where none has one.
     filled: u32,
 }
 
@@ -179,7 +179,7 @@ impl Model for PageTable {
 }
 
 impl PageTable {
-    /// So many pages that are Zero.
+    /// Makes a table of `pages` pages that are all Zero.
     #[tactic(auto, using(crate::proofs::PageLaws::zeros_counted))]
     pub(crate) fn new(alloc: Global, pages: u32) -> Result<PageTable, NoMemory>
         ensures { IfOk result (λ t. t ≡ replicate pages loc.Zero) }
@@ -193,21 +193,21 @@ impl PageTable {
         })
     }
 
-    /// The places of all pages.
+    /// Returns the places of all pages.
     pub fn places(&self) -> &[Loc]
         ensures { result.now ≡ self.now }
     {
         self.places.items()
     }
 
-    /// How many pages have a frame, in constant time.
+    /// Returns how many pages have a frame. Takes constant time.
     pub fn frames(&self) -> u32
         ensures { result ≡ length (filter_map frame_of self.now) }
     {
         self.frames
     }
 
-    /// The page that is filled next: the first one without a frame, in constant time.
+    /// Returns the page that is filled next, the first one without a frame, or None where each has one. Takes constant time.
     pub fn first_unfilled(&self) -> Option<u32>
         ensures { result ≡ position (λ l. not (words.is_frame l)) self.now }
     {
@@ -218,7 +218,7 @@ impl PageTable {
         }
     }
 
-    /// The page that is swapped out next: the first one with a frame, in constant time.
+    /// Returns the page that is swapped out next, the first one with a frame, or None where none has one. Takes constant time.
     pub fn first_filled(&self) -> Option<u32>
         ensures { result ≡ position words.is_frame self.now }
     {
@@ -229,7 +229,7 @@ impl PageTable {
         }
     }
 
-    /// Some page has a frame. In constant time.
+    /// Returns whether some page has a frame. Takes constant time.
     #[tactic(auto, using(crate::proofs::FilledLaws::some_frame))]
     pub fn has_frame(&self) -> bool
         ensures { result ≡ list_any words.is_frame self.now }
@@ -237,14 +237,14 @@ impl PageTable {
         0 < self.frames
     }
 
-    /// Each page has a frame. In constant time.
+    /// Returns whether each page has a frame. Takes constant time.
     pub fn has_all_frames(&self) -> bool
         ensures { result ≡ list_all words.is_frame self.now }
     {
         self.first_unfilled().is_none()
     }
 
-    /// Gives a page another place, if the page is there.
+    /// Gives page `page` the place `place`, if the page is there.
     #[tactic(auto, using(crate::proofs::Setting::set_beyond, crate::proofs::Setting::length_set))]
     pub(crate) fn set(&mut self, page: u32, place: Loc)
         ensures { self.new ≡ slice_set self.old page place }
@@ -257,7 +257,7 @@ impl PageTable {
         }
     }
 
-    /// Gives all frames back.
+    /// Drops all frames: their pages are then Zero. Slots stay.
     #[tactic(auto, using(crate::proofs::PageLaws::dropped_counted))]
     pub(crate) fn drop_frames(&mut self)
         ensures { self.new ≡ map without_frame self.old }

@@ -14,14 +14,14 @@ use std::alloc::Global;
 use std::marker::Model;
 use ttm_base::{BufId, ItemList, JobId, Loc, Mem, NoMemory, Spans, Stamp, Usage};
 
-/// Buffers by number, seen as the lists of buffers, of reservations, of the jobs that use them, and of their numbers of pages. A change of a buffer that
-/// isn't there changes nothing. Only `new` takes memory. `make`, `drop_frames` and a `carry` out of TT take time by the pages of the buffer, `make`
-/// and `kill` by contexts, `set_page` at most up to the next page without a frame; all other calls take constant time.
+/// Buffers by number, seen as the lists of buffers, of reservations, of the jobs that use them, and of their numbers of pages. A change of a buffer
+/// that isn't there changes nothing. Only `new` takes memory. `make`, `drop_frames` and a `carry` out of TT take time by the pages of the buffer,
+/// `make` and `kill` by contexts, `set_page` at most up to the next page without a frame; all other calls take constant time.
 pub struct BoTable {
     bos: ItemList<Bo>,
 }
 
-/// By hand, so that no crate above proves how each part goes.
+/// Written by hand, so that no crate above has to prove how each part is dropped.
 impl Drop for BoTable {
     fn drop(self) {
         let Self { bos: _ } = self;
@@ -37,7 +37,7 @@ impl Model for BoTable {
 }
 
 impl BoTable {
-    /// All buffers dead, with room for the pages of each. A buffer's number is its place among the declared ones.
+    /// Makes the table with all buffers dead, and room for the pages of each. A buffer's number is its place among the declared ones.
     pub fn new(alloc: Global, decls: &[Decl], contexts: u32) -> Result<BoTable, NoMemory>
         ensures { IfOk result (λ t. t ≡ first_bos decls.now contexts) }
     {
@@ -49,14 +49,14 @@ impl BoTable {
         Ok(BoTable { bos })
     }
 
-    /// How many buffers are declared.
+    /// Returns the number of declared buffers.
     pub fn len(&self) -> usize
         ensures { result ≡ length self.now.reservations }
     {
         self.bos.len()
     }
 
-    /// Lends a buffer.
+    /// Returns buffer `b`, which is declared.
     #[tactic(auto, using(crate::proofs::TableLaws::lent))]
     pub fn get(&self, b: BufId) -> &Bo
         requires { b.0 < length self.now.reservations }
@@ -65,7 +65,7 @@ impl BoTable {
         self.bos.get(b.0 as usize)
     }
 
-    /// Makes a buffer live in SYSTEM, with no page, pin, holder, target or job.
+    /// Makes buffer `b` live in SYSTEM, with no page, pin, holder, target or job.
     #[tactic(auto, using(crate::proofs::TableLaws::made_at, crate::proofs::TableLaws::reset_beyond))]
     pub fn make(&mut self, b: BufId)
         ensures { self.new ≡ with_made self.old b }
@@ -76,7 +76,7 @@ impl BoTable {
         }
     }
 
-    /// Makes a buffer dead.
+    /// Makes buffer `b` dead.
     #[tactic(auto, using(crate::proofs::TableLaws::reset_at, crate::proofs::TableLaws::reset_beyond))]
     pub fn kill(&mut self, b: BufId)
         ensures { self.new ≡ with_killed self.old b }
@@ -87,7 +87,7 @@ impl BoTable {
         }
     }
 
-    /// Gives a page of a live buffer another place.
+    /// Gives page `page` of the live buffer `b` the place `place`.
     #[tactic(auto, using(crate::proofs::TableLaws::changed_at, crate::proofs::TableLaws::changed_beyond))]
     pub fn set_page(&mut self, b: BufId, page: u32, place: Loc)
         ensures { self.new ≡ with_changed (with_loc page place) self.old b }
@@ -98,7 +98,7 @@ impl BoTable {
         }
     }
 
-    /// Takes all frames out of the table of a live buffer. Its slots stay.
+    /// Drops all frames of the live buffer `b` from its table. Its slots stay.
     #[tactic(auto, using(crate::proofs::TableLaws::changed_at, crate::proofs::TableLaws::changed_beyond))]
     pub fn drop_frames(&mut self, b: BufId)
         ensures { self.new ≡ with_changed without_frames self.old b }
@@ -109,7 +109,7 @@ impl BoTable {
         }
     }
 
-    /// Gives a live buffer another target, or none, in a memory type.
+    /// Sets the target of the live buffer `b` in the memory type `mem` to `spans`, or to none.
     #[tactic(auto, using(crate::proofs::TableLaws::changed_at, crate::proofs::TableLaws::changed_beyond))]
     pub fn set_target(&mut self, b: BufId, mem: Mem, spans: Option<Spans>)
         ensures { self.new ≡ with_changed (with_spans mem spans) self.old b }
@@ -120,7 +120,7 @@ impl BoTable {
         }
     }
 
-    /// Gives a live buffer in TT an empty target in SYSTEM: where a victim goes.
+    /// Gives the live buffer `b`, if it stands in TT, an empty target in SYSTEM, where a victim goes.
     #[tactic(auto, using(crate::proofs::TableLaws::changed_at, crate::proofs::TableLaws::changed_beyond))]
     pub fn leave_tt(&mut self, alloc: Global, b: BufId)
         ensures { self.new ≡ with_changed (λ x. leaves_tt x.mem x) self.old b }
@@ -131,7 +131,7 @@ impl BoTable {
         }
     }
 
-    /// Puts a live buffer in TT, at its target there (ttm_bo_move_null): its frames stay.
+    /// Puts the live buffer `b` in TT, at its target there (ttm_bo_move_null): its frames stay.
     #[tactic(auto, using(crate::proofs::TableLaws::changed_at, crate::proofs::TableLaws::changed_beyond))]
     pub fn bind(&mut self, b: BufId)
         ensures { self.new ≡ with_changed bound self.old b }
@@ -142,7 +142,7 @@ impl BoTable {
         }
     }
 
-    /// Puts a live buffer in SYSTEM, which takes its target there: its frames stay.
+    /// Puts the live buffer `b` in SYSTEM, which takes its target there: its frames stay.
     #[tactic(auto, using(crate::proofs::TableLaws::changed_at, crate::proofs::TableLaws::changed_beyond))]
     pub fn unbind(&mut self, b: BufId)
         ensures { self.new ≡ with_changed unbound self.old b }
@@ -153,7 +153,8 @@ impl BoTable {
         }
     }
 
-    /// Puts a live buffer at its target in a memory type, as a move does. Out of TT it leaves its frames. The job of the move is added apart.
+    /// Puts the live buffer `b` at its target in the memory type `mem`, as a move does. Out of TT it leaves its frames. The job of the move is added
+    /// separately.
     #[tactic(auto, using(crate::proofs::TableLaws::changed_at, crate::proofs::TableLaws::changed_beyond))]
     pub fn carry(&mut self, b: BufId, mem: Mem)
         ensures { self.new ≡ with_changed (carried mem) self.old b }
@@ -164,7 +165,7 @@ impl BoTable {
         }
     }
 
-    /// Reserves a buffer that nobody holds for a ticket (dma_resv_lock).
+    /// Reserves buffer `b`, which has no holder, for the ticket `stamp` (dma_resv_lock).
     #[tactic(auto, using(crate::proofs::TableLaws::reservation_changed_at, crate::proofs::TableLaws::reservation_changed_beyond))]
     pub fn reserve(&mut self, b: BufId, stamp: Stamp)
         requires { (reservation_in self.old.reservations b).holder ≡ None }
@@ -176,7 +177,7 @@ impl BoTable {
         }
     }
 
-    /// Ends the reservation of a buffer, if it is reserved (dma_resv_unlock).
+    /// Ends the reservation of buffer `b`, if it is reserved (dma_resv_unlock).
     #[tactic(auto, using(crate::proofs::TableLaws::reservation_changed_at, crate::proofs::TableLaws::reservation_changed_beyond))]
     pub fn release(&mut self, b: BufId)
         ensures { self.new ≡ with_reservation (with_holder None) self.old b }
@@ -187,7 +188,7 @@ impl BoTable {
         }
     }
 
-    /// Pins a buffer once more (ttm_bo_pin).
+    /// Pins buffer `b` once more (ttm_bo_pin).
     #[tactic(auto, using(crate::proofs::TableLaws::reservation_changed_at, crate::proofs::TableLaws::reservation_changed_beyond))]
     pub fn pin(&mut self, b: BufId)
         requires { (reservation_in self.old.reservations b).pins < 255 }
@@ -199,7 +200,7 @@ impl BoTable {
         }
     }
 
-    /// Pins a buffer once less, if it is pinned (ttm_bo_unpin).
+    /// Takes one pin from buffer `b`, if it is pinned (ttm_bo_unpin).
     #[tactic(auto, using(crate::proofs::TableLaws::reservation_changed_at, crate::proofs::TableLaws::reservation_changed_beyond))]
     pub fn unpin(&mut self, b: BufId)
         ensures { self.new ≡ with_reservation pinned_less self.old b }
@@ -210,7 +211,7 @@ impl BoTable {
         }
     }
 
-    /// Adds a job of a known context that uses a buffer (dma_resv_add_fence).
+    /// Adds `job`, whose context is known, to the jobs that use buffer `b`, as `usage` tells (dma_resv_add_fence).
     #[tactic(auto, using(crate::proofs::TableLaws::used_at, crate::proofs::TableLaws::used_beyond))]
     pub fn add_fence(&mut self, b: BufId, job: JobId, usage: Usage)
         requires known { ForSome (slice_get self.old.fences b.0) (λ set. job.ctx < length set) }

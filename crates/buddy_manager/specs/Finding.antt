@@ -33,38 +33,38 @@ pub record IsAt (g f : ℕ → Bool) (size : ℕ) (range : Span) (source : Span)
   pub start : range.start ≤ source.start
   pub end : source.end ≤ range.end
 
--- the rest of an order
+-- the rest of the range for an order
 abbrev pub rest_of : List Span → ℕ → Span
 rest_of rests order = slice_index_or rests order (record { start = 0; end = 0 })
 
--- of f, g are the pages that are left: of the free blocks of each order those in its rest
+-- g are the pages of f that are left: of the free blocks of each order those in its rest
 pub record IsLeft (g f : ℕ → Bool) (size : ℕ) (range : Span) (rests : List Span) : Type 0 where
   pub part : IsPart g f size
   pub count : length rests ≡ 32
   pub at : (k : ℕ) → k < 32 → IsAt g f size range (rest_of rests k) k
 
--- no free block of an order k is inside the range
+-- no free block of order k is inside the range
 abbrev pub HasNoBlock : (ℕ → Bool) → ℕ → Span → ℕ → Type 0
 HasNoBlock g size range k = (i : ℕ) → is_inside range (numbered k i) ≡ true → is_free_block g size (numbered k i) ≡ false
 
--- at the end of a range from which blocks are taken no block of order k lies across it
+-- no block of the order lies across that end of the range from which blocks are taken
 abbrev pub IsEven : Bool → Span → ℕ → ℕ → Type 0
 IsEven false range size k = (page : ℕ) → range.start ≤ page → range.start ≤ page / 2 ^ k * 2 ^ k
 IsEven true range size k = (page : ℕ) → page < range.end → page / 2 ^ k * 2 ^ k + 2 ^ k ≤ size → page / 2 ^ k * 2 ^ k + 2 ^ k ≤ range.end
 
--- what is left of a range after a block
+-- what is left of a range behind a block, in the direction in which blocks are taken
 abbrev pub behind : Bool → Span → Span → Span
 behind false range block = record { start = block.end; end = range.end }
 behind true range block = record { start = range.start; end = block.start }
 
 -- ---- a block that was split, of which a half is left
 
--- c is the other half of the block of which i is a half
+-- c is the buddy of i: the other half of the block of which i is a half
 pub record IsBeside (i c : ℕ) : Type 0 where
   pub half : c / 2 ≡ i / 2
   pub other : c ≡ i → ⊥
 
--- the order is below that of the half that is left, and above it
+-- the order is below that of the half that is left, or above it
 abbrev pub IsBelow : ℕ → Option Half → Type 0
 IsBelow order None = Unit {0}
 IsBelow order (Some half) = order < half.order
@@ -73,12 +73,13 @@ abbrev pub IsBeyond : ℕ → Option Half → Type 0
 IsBeyond order None = ⊥
 IsBeyond order (Some half) = half.order < order
 
--- the pages of the half have numbers
+-- the pages of the half are below the bound on page numbers
 abbrev pub HasNumbers : Option Half → Type 0
 HasNumbers None = Unit {0}
 HasNumbers (Some half) = (half.order ≤ 31) × (half.number * 2 ^ half.order + 2 ^ half.order ≤ 2 ^ 31)
 
--- all of the half is left, it is the largest free block around its pages, and h has none of them; other such blocks of its order are of h
+-- all of the half is left, it is the largest free block around its pages, and h has none of them; other such blocks of its
+-- order are of h
 pub record IsHalf (g h : ℕ → Bool) (size : ℕ) (range : Span) (half : Half) : Type 0 where
   pub whole : IsWhole g size half.order (half.number * 2 ^ half.order)
   pub inside : is_inside range (numbered half.order half.number) ≡ true
@@ -89,7 +90,8 @@ abbrev pub HalfOf : (ℕ → Bool) → (ℕ → Bool) → ℕ → Span → Optio
 HalfOf g h size range None = Unit {0}
 HalfOf g h size range (Some half) = IsHalf g h size range half
 
--- of f, g are the pages that are left: the rests tell them but for blocks that were split, of which the last one's half is told
+-- g are the pages of f that are left: the rests tell them except for blocks that were split, of which the half tells the
+-- last one's
 pub record IsKnown (g f : ℕ → Bool) (size : ℕ) (range : Span) (rests : List Span) (half : Option Half) : Type 0 where
   pub under : ℕ → Bool
   pub left : IsLeft under f size range rests
@@ -113,7 +115,7 @@ pub record IsFirstIn (half : Half) (topdown : Bool) (k : ℕ) (block : Span) : T
   pub within : number * 2 ^ k / 2 ^ half.order ≡ half.number
   pub first : (m : ℕ) → m * 2 ^ k / 2 ^ half.order ≡ half.number → IsAhead topdown number m
 
--- the first in the half, where no lesser block is left
+-- the first block in the half, where no lesser block is left
 pub record IsFoundHalf (f : ℕ → Bool) (size : ℕ) (range : Span) (topdown : Bool) (k : ℕ) (rests : List Span) (half : Option Half) (of : Half) (block : Span) : Type 0 where
   pub is : half ≡ Some of
   pub order : k < of.order
@@ -127,7 +129,7 @@ IsFoundBy f size range topdown k rests half (Spare of) block = IsFoundHalf f siz
 abbrev pub IsFound : (ℕ → Bool) → ℕ → Span → Bool → ℕ → List Span → Option Half → Found → Type 0
 IsFound f size range topdown k rests half found = IsFoundBy f size range topdown k rests half found.origin found.block
 
--- its numbers have room, and it has so many pages
+-- the numbers of a found block and of its origin are within bounds, and the block has the pages of its order
 abbrev pub HasOrder : Origin → Type 0
 HasOrder (Free w) = w < 32
 HasOrder (Spare of) = Unit {0}
@@ -138,7 +140,7 @@ pub record HasRoom (k : ℕ) (found : Found) : Type 0 where
   pub len : found.block.end ≡ found.block.start + 2 ^ k
   pub whole : HasOrder found.origin
 
--- what is told of the next block, where the free blocks alone are looked at, and where the half is too
+-- what a look for the next block tells, where only the free blocks are looked at, and where the half is looked at too
 abbrev pub IsLookedFree : (ℕ → Bool) → ℕ → Span → Bool → ℕ → List Span → Option Half → Looked → Type 0
 IsLookedFree f size range topdown k rests half (Block found) = IsFound f size range topdown k rests half found × HasRoom k found
 IsLookedFree f size range topdown k rests half Nowhere = (h : ℕ → Bool) → IsLeft h f size range rests → (i w : ℕ) → IsPiece h size range k w i → IsBeyond w half
@@ -151,14 +153,14 @@ IsLooked f size range topdown k rests half Unknown = Unit {0}
 
 -- ---- how far a search is
 
--- of the blocks those at the front are marked as held
+-- the first `count` of the blocks are marked as held
 pub record IsMarkedIn (before now : List Bool) (count : ℕ) (out : List Span) : Type 0 where
   pub size : length now ≡ length before
   pub each : AreTaken (is_free before) (length before) out
   pub most : count ≤ length out
   pub marks : (page : ℕ) → is_free now page ≡ beside (is_free before) (take count out) page
 
--- the blocks that were found, of so many pages, are the first of the choice
+-- the blocks that were found, for a number of pages, are the first of the choice
 pub record IsFinding (before : List Bool) (range : Span) (topdown : Bool) (pages : ℕ) (now : List Bool) (out : List Span) (s : Search) : Type 0 where
   pub marks : IsMarkedIn before now s.marked out
   pub fuel : length out + s.left ≤ pages
@@ -168,6 +170,6 @@ pub record IsFinding (before : List Bool) (range : Span) (topdown : Bool) (pages
   pub same : (test : ℕ → Bool) → Tells test before
       → option_map (λ more. out ++ more) (scattered (pages - length out) (beside test out) (length before) range topdown s.left) ≡ scattered pages test (length before) range topdown pages
 
--- it bounds the steps that are left
+-- a bound on the steps that are left
 abbrev pub work_of : Search → ℕ
 work_of s = 33 * s.left + s.order

@@ -5,7 +5,7 @@ use Rattle.ttm_base.specs.Holes.{has_page, is_free_beside}
 use Rattle.block_tree.specs.FreeSet.{is_free}
 use Rattle.buddy_manager.specs.Held.{held_from, AllBy, IsApart, pages_of}
 
--- the pages that are free without those of a block
+-- whether a page is free after the pages of a block were taken
 abbrev pub less : (ℕ → Bool) → Span → ℕ → Bool
 less f b page = f page && not (has_page page b)
 
@@ -23,7 +23,7 @@ abbrev pub AreTaken : (ℕ → Bool) → ℕ → List Span → Type 0
 AreTaken f size [] = Unit {0}
 AreTaken f size (b ∷ bs) = CanTake f size b × AreTaken (less f b) size bs
 
--- the pages that are free with those of a block
+-- whether a page is free after the pages of a block were given back
 abbrev pub more : (ℕ → Bool) → Span → ℕ → Bool
 more f b page = f page || has_page page b
 
@@ -40,7 +40,7 @@ AreGiven f size (b ∷ bs) = CanGive f size b × AreGiven (more f b) size bs
 abbrev pub Tells : (ℕ → Bool) → List Bool → Type 0
 Tells test marks = (page : ℕ) → page < length marks → test page ≡ is_free marks page
 
--- what of the marks was taken
+-- the marks after blocks were taken
 pub record IsTakenBy (before : List Bool) (taken : List Span) (after : List Bool) : Type 0 where
   pub size : length after ≡ length before
   pub marks : (page : ℕ) → is_free after page ≡ beside (is_free before) taken page

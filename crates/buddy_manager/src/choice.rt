@@ -11,7 +11,8 @@ use crate::{AllocFault, BuddyFlags};
 use block_tree::FreeBlocks;
 use ttm_base::{Span, Spans, log2, order_of};
 
-/// Takes the block of the greatest order below a bound that has one.
+/// Takes the block of the greatest order below `orders` that has one. None means that there is no such block, and changes
+/// nothing.
 fn take_block(free: &mut FreeBlocks, range: Span, topdown: bool, orders: u32) -> Option<Span>
     ensures choice { (test : ℕ → Bool) → Tells test free.old → option_map (λ c. c.block) (words.first_candidate (words.candidate test (length free.old) range topdown) orders) ≡ result }
     ensures can { IfSome result (CanTake (is_free free.old) (length free.old)) }
@@ -30,7 +31,7 @@ fn take_block(free: &mut FreeBlocks, range: Span, topdown: bool, orders: u32) ->
     None
 }
 
-/// Takes block after block until no page is left. After a refusal those that were taken stand in `out`.
+/// Takes block after block until no page is left to take. After an error the blocks that were taken are in `out`.
 fn scattered(
     free: &mut FreeBlocks,
     range: Span,
@@ -64,7 +65,7 @@ fn scattered(
     }
 }
 
-/// Finds one block of the next power of two, cut to the pages.
+/// Finds one block of the next power of two, cut to `pages` pages, and takes nothing.
 fn find_block(
     free: &FreeBlocks,
     range: Span,
@@ -92,7 +93,7 @@ fn find_block(
     Ok(())
 }
 
-/// Takes one block of the next power of two, cut to the pages.
+/// Takes one block of the next power of two, cut to `pages` pages.
 fn contiguous(
     free: &mut FreeBlocks,
     range: Span,
@@ -121,7 +122,7 @@ pub(crate) fn take_spans(free: &mut FreeBlocks, spans: &[Span])
     }
 }
 
-/// Marks the pages of spans as free, of which none is.
+/// Marks the pages of spans, all of which are held, as free.
 pub(crate) fn free_spans(free: &mut FreeBlocks, spans: &[Span])
     requires { AreGiven (is_free free.old) (length free.old) spans.now }
     ensures size { length free.new ≡ length free.old }
@@ -132,7 +133,7 @@ pub(crate) fn free_spans(free: &mut FreeBlocks, spans: &[Span])
     }
 }
 
-/// Takes blocks one after the other, or one. After a refusal those that were taken stand in `out`.
+/// Takes blocks one after the other, or one block, as `flags` say. After an error the blocks that were taken are in `out`.
 fn take_blocks(
     free: &mut FreeBlocks,
     range: Span,
@@ -153,7 +154,8 @@ fn take_blocks(
     }
 }
 
-/// Takes the blocks of the choice, in the order in which they are taken. After a refusal nothing is taken.
+/// Takes the blocks of the choice, and puts them into `out` in the order in which they are taken. After an error nothing is
+/// taken.
 pub(crate) fn take_choice(
     free: &mut FreeBlocks,
     range: Span,
@@ -179,7 +181,7 @@ pub(crate) fn take_choice(
     }
 }
 
-/// The blocks of the choice, of which none stays taken.
+/// Finds the blocks of the choice, and puts them into `out`. None of them stays taken.
 pub(crate) fn find_choice(
     free: &mut FreeBlocks,
     range: Span,

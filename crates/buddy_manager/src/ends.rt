@@ -1,4 +1,4 @@
-//! For each page where the block that begins there ends; a page where none begins has no end above it.
+//! For each page the end of the block that begins there. A page where no block begins has no end above it.
 ghost use Rattle.std.specs.Prelude.{◌≡◌, ◌+◌, ◌^◌, ◌<◌, ◌≤◌, ◌==◌, true, length, OnOk, OnErr};
 ghost use Rattle.std.specs.List.{find};
 ghost use Rattle.ttm_base.specs.Holes.{is_free_beside};
@@ -8,7 +8,7 @@ ghost use Rattle.buddy_manager.specs.Taking.{AreTaken};
 use sparse_table::SparseTable;
 use ttm_base::{NoMemory, Span};
 
-/// Holds blocks, one after the other. After a refusal none of them is held.
+/// Holds blocks, one after the other. Where memory is refused none of them is held.
 pub(crate) fn hold(ends: &mut SparseTable, blocks: &[Span]) -> Result<(), NoMemory>
     requires taken { AreTaken (is_free_beside (held_from 0 ends.old)) (length ends.old) blocks.now }
     requires apart { IsApart (held_from 0 ends.old) }
@@ -25,7 +25,7 @@ pub(crate) fn hold(ends: &mut SparseTable, blocks: &[Span]) -> Result<(), NoMemo
     Ok(())
 }
 
-/// Holds blocks no more.
+/// Releases blocks, which are held.
 pub(crate) fn let_go(ends: &mut SparseTable, blocks: &[Span])
     requires { AreHeld blocks.now (held_from 0 ends.old) }
     ensures len { length ends.new ≡ length ends.old }
@@ -36,7 +36,7 @@ pub(crate) fn let_go(ends: &mut SparseTable, blocks: &[Span])
     }
 }
 
-/// Holds the first `keep` pages of a block, and no longer the others.
+/// Keeps the first `keep` pages of a held block, and releases the others.
 pub(crate) fn cut(ends: &mut SparseTable, block: Span, keep: u32)
     requires held { is_held block (held_from 0 ends.old) ≡ true }
     requires some { 1 ≤ keep }
@@ -47,21 +47,21 @@ pub(crate) fn cut(ends: &mut SparseTable, block: Span, keep: u32)
     ends.replace(block.start as usize, block.start + keep);
 }
 
-/// Tells whether a block is held.
+/// Returns whether a block is held.
 pub(crate) fn is_held(ends: &SparseTable, block: Span) -> bool
     ensures { result ≡ is_held block (held_from 0 ends.now) }
 {
     block.start < block.end && ends.get(block.start as usize) == block.end
 }
 
-/// Tells whether a block is among blocks.
+/// Returns whether a block is one of `blocks`.
 fn is_among(block: Span, blocks: &[Span]) -> bool
     ensures { result ≡ is_held block blocks.now }
 {
     blocks.iter().any(|other| block.start == other.start && block.end == other.end)
 }
 
-/// Tells whether blocks are distinct and each is held. It compares each with those after it.
+/// Returns whether blocks are distinct and each is held. It compares each with those after it.
 pub(crate) fn are_held(ends: &SparseTable, blocks: &[Span]) -> bool
     ensures { result ≡ all_held blocks.now (held_from 0 ends.now) }
 {
@@ -73,7 +73,7 @@ pub(crate) fn are_held(ends: &SparseTable, blocks: &[Span]) -> bool
     true
 }
 
-/// Finds the block that begins at `start`.
+/// Finds the held block that begins at page `start`.
 pub(crate) fn block_from(ends: &SparseTable, start: u32) -> Option<Span>
     ensures { result ≡ find (λ block. block.start == start) (held_from 0 ends.now) }
 {

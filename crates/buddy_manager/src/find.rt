@@ -1,4 +1,4 @@
-//! A search for blocks that marks none as held but where it can't know what is left otherwise.
+//! A search for blocks that marks blocks as held only where it can't know otherwise what is left.
 ghost use Rattle.std.specs.Prelude.{◌≡◌, ℕ, ◌+◌, ◌-◌, ◌<◌, ◌≤◌, ◌∷◌, ◌++◌, Bool, true, false, List, [], Some, None, IfSome, OnOk, OnErr, length, drop, replicate};
 ghost use Rattle.ttm_base.specs.BuddyChoice as words;
 ghost use Rattle.block_tree.specs.FreeSet.{is_free};
@@ -12,34 +12,34 @@ use crate::unmarked::{Found, Half, Origin, first_in, is_even, note, rest_of};
 use block_tree::{FreeBlocks, block_len};
 use ttm_base::{NoMemory, Span, Spans, log2};
 
-/// More than the order of any free block, since there are fewer than 2^31 pages.
+/// A bound above the order of any free block, since there are fewer than 2^31 pages.
 const ORDERS: usize = 32;
 
-/// What a look for the next block tells.
+/// The outcome of a look for the next block.
 #[derive(Clone, Copy)]
 pub enum Looked {
     Block(Found),
     Nowhere,
-    /// The blocks that were found have to be marked first.
+    /// What is left can't be known before the blocks that were found are marked.
     Unknown,
 }
 
-/// How far a search is.
+/// The state of a search.
 #[derive(Clone, Copy)]
 pub struct Search {
-    /// The pages that are left to find.
+    /// The number of pages that are left to find.
     pub left: u32,
-    /// There is no block of a greater order that isn't too large.
+    /// The order up to which blocks are looked for: each block of a greater order is too large, or there is none.
     pub order: u32,
-    /// For each order the part of the range in which free blocks of it are left.
+    /// For each order the part of the range in which free blocks of that order are left.
     pub rests: [Span; ORDERS],
     /// The half that is left of the block that was split last.
     pub half: Option<Half>,
-    /// How many blocks at the front are marked as held.
+    /// The number of blocks at the front that are marked as held.
     pub marked: usize,
 }
 
-/// An order is below that of the half that is left.
+/// Returns whether an order is below that of the half that is left, or no half is left.
 fn is_below(order: u32, half: Option<Half>) -> bool
     ensures below { result ≡ true → IsBelow order half }
 {
@@ -49,7 +49,7 @@ fn is_below(order: u32, half: Option<Half>) -> bool
     }
 }
 
-/// An order is above that of the half that is left.
+/// Returns whether an order is above that of the half that is left.
 fn is_beyond(order: u32, half: Option<Half>) -> bool
     ensures beyond { result ≡ true → IsBeyond order half }
 {
@@ -59,7 +59,7 @@ fn is_beyond(order: u32, half: Option<Half>) -> bool
     }
 }
 
-/// No block of an order lies across an end of a range.
+/// Returns true only if no block of the order `order` lies across an end of a range.
 fn has_even_ends(range: Span, order: u32, size: u32) -> bool
     requires { order ≤ 31 }
     ensures start { result ≡ true → IsEven false range size order }
@@ -68,7 +68,7 @@ fn has_even_ends(range: Span, order: u32, size: u32) -> bool
     is_even(range, false, order, size) && is_even(range, true, order, size)
 }
 
-/// A free block, or a block of one, where the half that is left is of a greater order.
+/// Returns a free block, or a block of one, as found where the half that is left is of a greater order or there is none.
 fn found_free(block: Span, whole: u32, half: Option<Half>) -> Looked
     ensures below { (found : Found) → result ≡ Looked.Block found → IsBelow whole half × (found ≡ record { block = block; origin = Origin.Free whole }) }
     ensures none { result ≡ Looked.Nowhere → ⊥ }
@@ -83,7 +83,8 @@ fn found_free(block: Span, whole: u32, half: Option<Half>) -> Looked
     }
 }
 
-/// The first free block from which the next block of an order is split, or that it is: of the least order that has one.
+/// Finds the first free block that is the next block of the order `order` or from which it is split, of the least order that
+/// has one.
 fn find_free(
     free: &FreeBlocks,
     range: Span,
@@ -113,7 +114,7 @@ fn find_free(
     Looked::Nowhere
 }
 
-/// Finds the next block of an order.
+/// Finds the next block of the order `order`.
 fn next_block(
     free: &FreeBlocks,
     range: Span,
@@ -143,7 +144,7 @@ fn next_block(
     }
 }
 
-/// Finds the first block of an order where none that was found stays unmarked.
+/// Finds the first block of the order `order` where no block that was found is left unmarked.
 fn find_fresh(free: &FreeBlocks, range: Span, topdown: bool, order: u32) -> Option<Found>
     ensures found { IfSome result (λ found. (rests : List Span) → rests ≡ replicate 32 range → IsFound (is_free free.now) (length free.now) range topdown order rests None found) }
     ensures room { IfSome result (HasRoom order) }
@@ -157,7 +158,7 @@ fn find_fresh(free: &FreeBlocks, range: Span, topdown: bool, order: u32) -> Opti
     })
 }
 
-/// Marks the pages of blocks as held, those that there are.
+/// Marks the pages of blocks as held, as far as there are such pages.
 fn mark_held(free: &mut FreeBlocks, blocks: &[Span])
     ensures size { length free.new ≡ length free.old }
     ensures held { (page : ℕ) → is_free free.new page ≡ beside (is_free free.old) blocks.now page }
@@ -173,7 +174,7 @@ fn mark_held(free: &mut FreeBlocks, blocks: &[Span])
     }
 }
 
-/// Marks all blocks that were found: then the free blocks tell what is left.
+/// Marks all blocks that were found as held. Then the free blocks tell what is left.
 fn mark_all(free: &mut FreeBlocks, range: Span, search: &mut Search, blocks: &Spans)
     requires { search.old.marked ≤ length blocks.now }
     ensures size { length free.new ≡ length free.old }
@@ -190,7 +191,7 @@ fn mark_all(free: &mut FreeBlocks, range: Span, search: &mut Search, blocks: &Sp
     search.half = None;
 }
 
-/// Finds the next block of an order; where it can't be known otherwise, the blocks that were found are marked before.
+/// Finds the next block. Where it can't be known otherwise, the blocks that were found are marked before.
 fn find_next(
     free: &mut FreeBlocks,
     range: Span,
@@ -229,7 +230,7 @@ fn find_next(
     }
 }
 
-/// Goes on to a lesser order where one has no block.
+/// Goes on to the next lower order where one has no block. `NoBlocks` means that the order was 0, and changes nothing.
 fn next_order(search: &mut Search) -> Result<(), AllocFault>
     ensures fault { OnErr result (result ≡ Err AllocFault.NoBlocks) }
     ensures least { OnErr result (search.old.order ≡ 0) }
@@ -248,7 +249,7 @@ fn next_order(search: &mut Search) -> Result<(), AllocFault>
     Ok(())
 }
 
-/// Puts a block behind the others.
+/// Pushes a block at the end of `out`. Where memory is refused `out` stays as it was.
 fn put_block(out: &mut Spans, block: Span) -> Result<(), AllocFault>
     ensures out { OnOk result (out.new ≡ out.old ++ block ∷ []) }
     ensures fault { OnErr result (result ≡ Err AllocFault.NoMemory) }
@@ -260,7 +261,8 @@ fn put_block(out: &mut Spans, block: Span) -> Result<(), AllocFault>
     }
 }
 
-/// Notes the last of the blocks that were found, if pages are left to find; all are marked where that can't be known otherwise.
+/// Notes the last of the blocks that were found, if pages are left to find. Where what is left can't be known otherwise, all
+/// blocks are marked.
 fn note_found(
     free: &mut FreeBlocks,
     range: Span,
@@ -297,7 +299,7 @@ fn note_found(
     mark_all(free, range, search, blocks);
 }
 
-/// Finds the next block, or goes on to a lesser order.
+/// Finds the next block, or goes on to the next lower order.
 fn step(
     free: &mut FreeBlocks,
     range: Span,
@@ -328,7 +330,7 @@ fn step(
     Ok(())
 }
 
-/// Finds blocks until no page is left. After a refusal those that were found stand in `out`.
+/// Finds blocks until no page is left to find. After an error the blocks that were found are in `out`.
 fn find_all(
     free: &mut FreeBlocks,
     range: Span,
@@ -348,7 +350,7 @@ fn find_all(
     Ok(())
 }
 
-/// Finds block after block, of which none stays marked.
+/// Finds block after block, of which none stays marked, and puts them into `out`. After an error `out` is empty.
 pub(crate) fn find_blocks(
     free: &mut FreeBlocks,
     range: Span,

@@ -1,4 +1,4 @@
-//! Blocks of pages by halves (drm_buddy): which are held, and which a request takes.
+//! A buddy allocator of pages (drm_buddy): which blocks are held, and which blocks a request takes.
 #![tactic(auto)]
 
 mod choice;
@@ -16,10 +16,10 @@ pub struct BuddyFlags {
     pub contig: bool,
 }
 
-/// Why a request got no blocks.
+/// The reason why a request got no blocks.
 #[derive(Clone, Copy, Debug, PartialEq, Eq)]
 pub enum AllocFault {
-    /// The free pages have no choice for it.
+    /// The choice finds no blocks among the free pages.
     NoBlocks,
     NoMemory,
 }

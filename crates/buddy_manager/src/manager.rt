@@ -15,17 +15,18 @@ use std::alloc::Global;
 use std::marker::Model;
 use ttm_base::{NoMemory, Span, Spans};
 
-/// The most pages that a manager has room for.
+/// The greatest number of pages of a manager.
 const MOST_PAGES: u32 = i32::MAX as u32;
 
-/// The pages of a memory type by blocks, seen as the number of pages and the blocks that are held. The other pages are free.
+/// A manager of the pages of a memory type by blocks, seen as the number of pages and the blocks that are held. The other
+/// pages are free.
 pub struct BuddyManager {
     free: FreeBlocks,
     ends: SparseTable,
     used: u32,
 }
 
-/// By hand, so that no crate above proves how each part goes.
+/// Names each part, so that no crate above proves how they are dropped.
 impl Drop for BuddyManager {
     fn drop(self) {
         let Self {
@@ -51,7 +52,8 @@ impl Model for BuddyManager {
 }
 
 impl BuddyManager {
-    /// Pages of which none is held. A manager has room for fewer than 2^31 pages: where there are more it answers `NoMemory`.
+    /// Returns a manager of `pages` pages, all of them free. A manager has room for fewer than 2^31 pages: for more the
+    /// answer is `NoMemory`.
     pub fn new(alloc: Global, pages: u32) -> Result<BuddyManager, NoMemory>
         ensures size { IfOk result (λ manager. manager.size ≡ pages) }
         ensures held { IfOk result (λ manager. manager.held ≡ []) }
@@ -69,7 +71,8 @@ impl BuddyManager {
         })
     }
 
-    /// The blocks that `alloc` takes, in their order; none of them is taken here. The manager stays as it was, whatever the answer.
+    /// Finds the blocks that `alloc` would take, and puts them into `out` in their order. None of them is taken: the manager
+    /// stays as it was, whatever the answer.
     pub fn choice(
         &mut self,
         pages: u32,
@@ -94,7 +97,8 @@ impl BuddyManager {
         Ok(())
     }
 
-    /// Takes blocks for so many pages between two pages, in the order of the buddy choice. After a refusal nothing is changed.
+    /// Takes blocks for `pages` pages from page `first` up to page `last`, and puts them into `out`, in the order of the
+    /// buddy choice. After an error nothing is changed.
     pub fn alloc(
         &mut self,
         pages: u32,
@@ -129,7 +133,7 @@ impl BuddyManager {
         Ok(())
     }
 
-    /// Holds these blocks, as a journal names them. After a refusal nothing is changed.
+    /// Holds the blocks `spans`, as a journal names them. Where memory is refused nothing is changed.
     pub fn hold(&mut self, spans: &Spans) -> Result<(), NoMemory>
         requires { AreTaken (is_free_beside self.old.held) self.old.size spans.now }
         ensures size { self.new.size ≡ self.old.size }
@@ -142,35 +146,35 @@ impl BuddyManager {
         Ok(())
     }
 
-    /// A block is held, as it was given out or as `trim` left it.
+    /// Returns whether a block is held, as it was given out or as `trim` left it.
     pub fn is_held(&self, block: Span) -> bool
         ensures { result ≡ is_held block self.now.held }
     {
         is_held(&self.ends, block)
     }
 
-    /// Tells whether blocks are distinct and each is held. It compares each with those after it.
+    /// Returns whether blocks are distinct and each is held. It compares each with those after it.
     pub fn are_held(&self, blocks: &Spans) -> bool
         ensures { Decides result (AreHeld blocks.now self.now.held) }
     {
         are_held(&self.ends, blocks.items())
     }
 
-    /// Finds the held block that begins at `start`.
+    /// Finds the held block that begins at page `start`.
     pub fn held_from(&self, start: u32) -> Option<Span>
         ensures { result ≡ find (λ block. block.start == start) self.now.held }
     {
         block_from(&self.ends, start)
     }
 
-    /// Counts the blocks that are held. It costs a step a page.
+    /// Counts the blocks that are held. It costs a step for each page.
     pub fn block_count(&self) -> usize
         ensures { result ≡ length self.now.held }
     {
         block_count(&self.ends)
     }
 
-    /// Gives blocks back that are held. It takes no memory.
+    /// Gives back blocks that are held. It takes no memory.
     pub fn release(&mut self, spans: &Spans)
         requires { AreHeld spans.now self.old.held }
         ensures size { self.new.size ≡ self.old.size }
@@ -209,7 +213,7 @@ impl BuddyManager {
         self.used -= rest.end - rest.start;
     }
 
-    /// How many pages are free, and how many are used.
+    /// Returns how many pages are free, and how many are used.
     pub fn lengths(&self) -> (u32, u32)
         ensures used { result.1 ≡ pages_of self.now.held }
         ensures sum { result.0 + result.1 ≡ self.now.size }

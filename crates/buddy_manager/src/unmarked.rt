@@ -1,5 +1,5 @@
-//! What is left of the free blocks while blocks that were found stay unmarked: a free block that was found whole, and one from
-//! which a block was split.
+//! What is left of the free blocks while blocks that were found stay unmarked: after a free block that was found whole, and
+//! after one from which a block was split.
 ghost use Rattle.std.specs.Prelude.{◌≡◌, ℕ, ◌+◌, ◌*◌, ◌/◌, ◌^◌, ◌<◌, ◌≤◌, Bool, true, length};
 ghost use Rattle.ttm_base.specs.Reach.{is_inside};
 ghost use Rattle.ttm_base.specs.BuddyChoice as words;
@@ -10,14 +10,15 @@ ghost use Rattle.buddy_manager.specs.Finding.{IsEven, IsBeside, IsFirstIn, HasNu
 use block_tree::block_len;
 use ttm_base::Span;
 
-/// The half that is left of a block of which the other half was found or split, by its order and its number among those of it.
+/// The half that is left of a block whose other half was found or split, by its order and its number among the blocks of
+/// that order.
 #[derive(Clone, Copy)]
 pub struct Half {
     pub order: u32,
     pub number: u32,
 }
 
-/// What a block was split from, or is.
+/// The origin of a block: what it was split from, or is.
 #[derive(Clone, Copy)]
 pub enum Origin {
     /// A free block of this order.
@@ -32,7 +33,7 @@ pub struct Found {
     pub origin: Origin,
 }
 
-/// What is left of a range after a block.
+/// Returns what is left of a range behind a block, in the direction in which blocks are taken.
 fn behind(range: Span, topdown: bool, block: Span) -> Span
     ensures { result ≡ behind topdown range block }
 {
@@ -49,7 +50,7 @@ fn behind(range: Span, topdown: bool, block: Span) -> Span
     }
 }
 
-/// No block of an order lies across that end of a range from which blocks are taken.
+/// Returns true only if no block of the order `order` lies across that end of a range from which blocks are taken.
 pub(crate) fn is_even(range: Span, topdown: bool, order: u32, size: u32) -> bool
     requires { order ≤ 31 }
     ensures { result ≡ true → IsEven topdown range size order }
@@ -62,7 +63,7 @@ pub(crate) fn is_even(range: Span, topdown: bool, order: u32, size: u32) -> bool
     }
 }
 
-/// The part of the range in which free blocks of an order are left.
+/// Returns the part of the range in which free blocks of the order `order` are left.
 pub(crate) fn rest_of(rests: &[Span], order: u32) -> Span
     requires { order < length rests.now }
     ensures { result ≡ rest_of rests.now order }
@@ -70,14 +71,14 @@ pub(crate) fn rest_of(rests: &[Span], order: u32) -> Span
     rests[order as usize]
 }
 
-/// All pages of a block are in a range.
+/// Returns whether all pages of a block are in a range.
 fn is_inside(range: Span, block: Span) -> bool
     ensures { result ≡ is_inside range block }
 {
     range.start <= block.start && block.end <= range.end
 }
 
-/// The pages of a block of an order.
+/// Returns the pages of the block with the order `order` and the number `number`.
 fn span_of(order: u32, number: u32) -> Span
     requires order { order ≤ 31 }
     requires small { number * 2 ^ order + 2 ^ order ≤ 2 ^ 31 }
@@ -91,7 +92,7 @@ fn span_of(order: u32, number: u32) -> Span
     }
 }
 
-/// The block of an order in which a page is.
+/// Returns the block of the order `order` that has the page `page`.
 fn block_around(order: u32, page: u32) -> Span
     requires order { order ≤ 31 }
     requires small { page < 2 ^ 31 }
@@ -105,7 +106,7 @@ fn block_around(order: u32, page: u32) -> Span
     }
 }
 
-/// The other half of the block of which a block is a half.
+/// Returns the buddy of a block: the other half of the block of which it is a half.
 fn half_beside(order: u32, block: Span) -> Half
     requires order { order ≤ 30 }
     requires small { block.start < 2 ^ 31 }
@@ -125,7 +126,7 @@ fn half_beside(order: u32, block: Span) -> Half
     }
 }
 
-/// The first block of an order in a half, by its number.
+/// Returns the number of the first block of the order `order` in a half.
 fn first_number(half: Half, topdown: bool, order: u32) -> u32
     requires order { order < half.order }
     requires most { half.order ≤ 31 }
@@ -141,7 +142,7 @@ fn first_number(half: Half, topdown: bool, order: u32) -> u32
     }
 }
 
-/// The first block of an order in a half.
+/// Returns the first block of the order `order` in a half.
 pub(crate) fn first_in(half: Half, topdown: bool, order: u32) -> Span
     requires order { order < half.order }
     requires most { half.order ≤ 31 }
@@ -151,7 +152,8 @@ pub(crate) fn first_in(half: Half, topdown: bool, order: u32) -> Span
     span_of(order, first_number(half, topdown, order))
 }
 
-/// An order's free blocks are left behind a block from which they were found: none of that order lies across the end of its rest.
+/// Returns true only if the free blocks of an order are left behind the block, from which they were found: none of that
+/// order lies across the end of its rest, and the block is inside the rest.
 fn is_clear(rest: Span, topdown: bool, order: u32, size: u32, block: Span) -> bool
     requires { order ≤ 31 }
     ensures even { result ≡ true → IsEven topdown rest size order }
@@ -160,7 +162,8 @@ fn is_clear(rest: Span, topdown: bool, order: u32, size: u32, block: Span) -> bo
     is_even(rest, topdown, order, size) && is_inside(rest, block)
 }
 
-/// Notes that a free block of an order was found, or a block that is split from it.
+/// Notes that a free block of the order `order` was found, or a block that is split from it. False means that what is left
+/// can't be known without marking it.
 fn note_free(
     rests: &mut [Span],
     half: &mut Option<Half>,
@@ -191,7 +194,7 @@ fn note_free(
     true
 }
 
-/// Notes that a block was found, or tells that what is left can't be known without marking it.
+/// Notes that a block was found. False means that what is left can't be known without marking it.
 pub(crate) fn note(
     rests: &mut [Span],
     half: &mut Option<Half>,

@@ -8,15 +8,15 @@ use std::alloc::Global;
 use std::marker::Model;
 use ttm_base::NoMemory;
 
-/// How many bytes a page has.
+/// The size of a page in bytes.
 pub const PAGE: u64 = 4096;
 
-/// How many bytes are made zeros at once, where a store is written after those that it has stored.
+/// The number of bytes that are zeroed at once where a store is written beyond the bytes that it has stored.
 const GROWTH: usize = 16 * PAGE as usize;
 
-/// The bytes of so many pages, one page after the other, seen as a list. A call takes no memory but for `new`, which only
-/// reserves it: the system gives a page of it when it is written first. So the bytes are stored up to the highest that was
-/// written, with a page or more of zeros, and zeros stand for those after.
+/// The bytes of a number of pages, one page after the other, seen as a list. Only `new` takes memory, and it only reserves
+/// it: the system provides a page of it when it is first written. So the bytes are stored up to the highest that was
+/// written, with a page or more of zeros, and the bytes after those are zeros.
 #[derive(Drop)]
 pub struct ByteStore {
     bytes: Vec<u8>,
@@ -37,7 +37,7 @@ impl Model for ByteStore {
 impl ByteStore {
     ghost use Rattle.byte_store.specs.Parts.{filled, overwritten, part, xored};
 
-    /// Pages of zeros.
+    /// Returns a store of `pages` pages of zeros.
     pub fn new(alloc: Global, pages: u32) -> Result<ByteStore, NoMemory>
         ensures zeros { IfOk result (λ store. store ≡ filled (PAGE * pages) 0) }
         ensures len { IfOk result (λ store. length store ≡ PAGE * pages) }
@@ -49,7 +49,7 @@ impl ByteStore {
         Ok(ByteStore { bytes, size })
     }
 
-    /// The byte at a place.
+    /// Returns the byte at position `at`.
     #[tactic(auto, using(crate::proofs::StoredLaws::first_of_part))]
     pub fn get(&self, at: u64) -> u8
         requires { at < length self.now }
@@ -58,7 +58,7 @@ impl ByteStore {
         self.part(at, 1)[0]
     }
 
-    /// Puts another byte at a place.
+    /// Replaces the byte at position `at`.
     #[tactic(auto, using(crate::proofs::StoredLaws::overwritten_one))]
     pub fn put(&mut self, at: u64, byte: u8)
         requires { at < length self.old }
@@ -68,7 +68,7 @@ impl ByteStore {
         self.copy_page_part(at, &[byte]);
     }
 
-    /// Lends `len` bytes, at most a page of them, from a place on.
+    /// Lends `len` bytes, at most a page of them, from position `at` on.
     #[tactic(auto, using(crate::proofs::StoredLaws::length_padded, crate::proofs::StoredLaws::ends_length, crate::proofs::StoredLaws::part_padded, crate::proofs::StoredLaws::part_behind, crate::proofs::StoredLaws::part_of_zeros))]
     pub fn part(&self, at: u64, len: u64) -> &[u8]
         requires page { len ≤ PAGE }
@@ -85,7 +85,7 @@ impl ByteStore {
         }
     }
 
-    /// Puts one byte at `len` places from a place on.
+    /// Fills the `len` bytes from position `at` on with `byte`.
     #[tactic(auto, using(crate::proofs::StoredLaws::length_padded, crate::proofs::StoredLaws::padded_overwritten, crate::proofs::StoredLaws::ends_in_zeros_filled))]
     pub fn fill(&mut self, at: u64, len: u64, byte: u8)
         requires { at + len ≤ length self.old }
@@ -98,7 +98,7 @@ impl ByteStore {
         fill_part(&mut self.bytes, at as usize, end, byte);
     }
 
-    /// Makes all bytes of a page zero. Where none of them is stored they are zeros, and nothing is written.
+    /// Zeroes all bytes of a page. Where none of them is stored they are zeros, and nothing is written.
     #[tactic(auto, using(crate::proofs::StoredLaws::length_padded, crate::proofs::StoredLaws::zeros_behind))]
     pub fn zero_page(&mut self, page: u32)
         requires { PAGE * page + PAGE ≤ length self.old }
@@ -111,7 +111,7 @@ impl ByteStore {
         }
     }
 
-    /// Puts the bytes of another store, or of a buffer, from a place on.
+    /// Copies the bytes `from`, of another store or of a buffer, to position `to`.
     #[tactic(auto, using(crate::proofs::StoredLaws::length_padded, crate::proofs::StoredLaws::padded_overwritten, crate::proofs::StoredLaws::ends_in_zeros_written))]
     pub fn copy_page_part(&mut self, to: u64, from: &[u8])
         requires { to + length from.now ≤ length self.old }
@@ -124,7 +124,7 @@ impl ByteStore {
         put_part(&mut self.bytes, to as usize, from);
     }
 
-    /// Copies `len` bytes of the store itself, also where both parts have bytes in common.
+    /// Copies `len` bytes of the store from position `from` to position `to`. The two parts may overlap.
     #[tactic(auto, using(crate::proofs::StoredLaws::length_padded, crate::proofs::StoredLaws::padded_overwritten, crate::proofs::StoredLaws::ends_in_zeros_moved))]
     pub fn copy_within(&mut self, to: u64, from: u64, len: u64)
         requires source { from + len ≤ length self.old }
@@ -138,7 +138,7 @@ impl ByteStore {
         move_part(&mut self.bytes, to as usize, from as usize, len as usize);
     }
 
-    /// Makes each byte from a place on its exclusive or with that of another store, or of a buffer.
+    /// Replaces each byte from position `to` on by its exclusive or with that of `from`, of another store or of a buffer.
     #[tactic(auto, using(crate::proofs::StoredLaws::length_padded, crate::proofs::StoredLaws::padded_overwritten, crate::proofs::StoredLaws::ends_in_zeros_xored))]
     pub fn xor_page_part(&mut self, to: u64, from: &[u8])
         requires { to + length from.now ≤ length self.old }
@@ -151,8 +151,8 @@ impl ByteStore {
         xor_part(&mut self.bytes, to as usize, from);
     }
 
-    /// Makes each of `len` bytes, at most a page of them, its exclusive or with another of the store itself, also where
-    /// both parts have bytes in common.
+    /// Replaces each of `len` bytes at position `to`, at most a page of them, by its exclusive or with that at position
+    /// `from`. The two parts may overlap.
     pub fn xor_within(&mut self, to: u64, from: u64, len: u64)
         requires page { len ≤ PAGE }
         requires source { from + len ≤ length self.old }
@@ -167,7 +167,7 @@ impl ByteStore {
     }
 }
 
-/// Stores the first zeros.
+/// Stores the first `count` zeros in a store that has stored nothing.
 fn store_first(bytes: &mut Vec<u8>, count: usize)
     requires empty { bytes.old.items ≡ [] }
     requires reserved { count ≤ vec_capacity bytes.old }
@@ -178,7 +178,7 @@ fn store_first(bytes: &mut Vec<u8>, count: usize)
     bytes.resize(count, 0).unwrap();
 }
 
-/// Stores the zeros up to a place, with a page of them after it where there are so many.
+/// Stores the zeros up to position `end`, and after it a page of them, or as many as there are up to `size`.
 #[tactic(auto, using(crate::proofs::StoredLaws::padded_resized, crate::proofs::StoredLaws::ends_in_zeros))]
 fn store_up_to(bytes: &mut Vec<u8>, size: usize, end: usize)
     requires fits { end ≤ size }
@@ -198,7 +198,7 @@ fn store_up_to(bytes: &mut Vec<u8>, size: usize, end: usize)
     }
 }
 
-/// Puts one byte at the places of a part.
+/// Fills the stored bytes from `at` up to `end` with `byte`.
 #[tactic(auto, unfolding(crate::specs::Parts::filled))]
 fn fill_part(bytes: &mut Vec<u8>, at: usize, end: usize, byte: u8)
     requires order { at ≤ end }
@@ -210,7 +210,7 @@ fn fill_part(bytes: &mut Vec<u8>, at: usize, end: usize, byte: u8)
     bytes[at..end].fill(byte);
 }
 
-/// Puts other bytes from a place on.
+/// Copies the bytes `from` to position `to`.
 fn put_part(bytes: &mut Vec<u8>, to: usize, from: &[u8])
     requires { to + length from.now ≤ vec_len bytes.old }
     ensures after { bytes.new.items ≡ overwritten bytes.old.items to from.now }
@@ -220,7 +220,7 @@ fn put_part(bytes: &mut Vec<u8>, to: usize, from: &[u8])
     bytes[to..to + from.len()].copy_from_slice(from);
 }
 
-/// Copies a part, also where both places have bytes in common.
+/// Copies `len` bytes from position `from` to position `to`. The two parts may overlap.
 fn move_part(bytes: &mut Vec<u8>, to: usize, from: usize, len: usize)
     requires source { from + len ≤ vec_len bytes.old }
     requires target { to + len ≤ vec_len bytes.old }
@@ -231,7 +231,7 @@ fn move_part(bytes: &mut Vec<u8>, to: usize, from: usize, len: usize)
     bytes.copy_within(from..from + len, to);
 }
 
-/// Makes each byte from a place on its exclusive or with others.
+/// Replaces each byte from position `to` on by its exclusive or with that of `from`.
 fn xor_part(bytes: &mut Vec<u8>, to: usize, from: &[u8])
     requires { to + length from.now ≤ vec_len bytes.old }
     ensures after { bytes.new.items ≡ overwritten bytes.old.items to (xored (part bytes.old.items to (length from.now)) from.now) }
@@ -241,7 +241,7 @@ fn xor_part(bytes: &mut Vec<u8>, to: usize, from: &[u8])
     xor_slices(&mut bytes[to..to + from.len()], from);
 }
 
-/// Makes each byte its exclusive or with that of the other slice.
+/// Replaces each byte by its exclusive or with that of the other slice.
 fn xor_slices(to: &mut [u8], from: &[u8])
     requires { length to.old ≡ length from.now }
     ensures { to.new ≡ xored to.old from.now }

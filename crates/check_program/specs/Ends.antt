@@ -5,8 +5,8 @@ use Rattle.program_edges.specs.Edges.{Edge, IsUntouched, IsFaultless, IsWritten,
 use Rattle.check_program.specs.declared.finding.Finding.{Finding}
 use Rattle.check_program.specs.Finds.{Finds, status_of, text_of}
 
--- The status: that of what was found, where its text was written whole; else a write failed or memory ran out, and a front of the text
--- was written, or nothing where memory ran out before.
+-- The status: that of what was found, where its text was written whole; else a write failed or memory ran out, and a prefix of the text was
+-- written, or nothing where memory ran out before.
 pub data EndsChecked (source sink : Edge) : Status → Type 0 where
   told : (f : Finding) → Finds source f → IsWritten sink (text_of f) → EndsChecked source sink (status_of f)
   broken : (f : Finding) → Finds source f → IsBroken sink (text_of f) → EndsChecked source sink status.WriteFault

@@ -40,7 +40,7 @@ pub record IsExact (bytes : Text) (sink : Edge) (s : Status) : Type 0 where
   pub rejected : (s ≡ status.Rejected) ↔ ((check_limit < length bytes) ⊎ AreInvalid bytes)
   pub named : (entry rule : ℕ) → length bytes ≤ check_limit → AreRejected bytes entry rule → IsWritten sink (rejected_text entry rule)
 
--- of a source that tells its bytes
+-- what `check` tells of a source that tells its bytes is exact
 abbrev pub VerdictsAreExact : Type 0
 VerdictsAreExact =
     (source sink : Edge) (s : Status) (bytes : Text) → source.before ≡ Some bytes → EndsChecked source sink s → IsTrue (is_verdict s) → IsExact bytes sink s
@@ -55,7 +55,7 @@ pub record AreScriptAndReport (bytes : Text) : Type 0 where
   pub complete : IsTrue (is_complete script journal)
   pub are : bytes ≡ script_bytes ++ report script journal
 
--- where they aren't too many, the status is 0
+-- where the bytes of a script and its report aren't too many, the status is 0
 abbrev pub ReportsAreValid : Type 0
 ReportsAreValid =
     (source sink : Edge) (s : Status) (bytes : Text) → source.before ≡ Some bytes → EndsChecked source sink s → IsTrue (is_verdict s) →

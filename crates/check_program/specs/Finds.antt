@@ -23,7 +23,7 @@ pub record AreAccepted (bytes : Text) : Type 0 where
   pub spelled : IsScript (script_part bytes) script
   pub accepted : IsAccepted script (report_part bytes)
 
--- they are a script and no such report: this entry is the first that isn't as it should be, by this rule
+-- the bytes are a script and no such report: this entry is the first that isn't as it should be, by this rule
 pub record AreRejected (bytes : Text) (entry rule : ℕ) : Type 0 where
   pub script : Script
   pub spelled : IsScript (script_part bytes) script
@@ -58,7 +58,7 @@ pub record WasTooLong (source : Edge) (entry : ℕ) (r : Rule) : Type 0 where
   pub entry_is : entry ≡ 0
   pub rule_is : r ≡ rules.Head
 
--- what was found
+-- what was found in a source
 abbrev pub Finds : Edge → Finding → Type 0
 Finds source finding.ReadFault = WasCutOff source check_limit
 Finds source (finding.BadScript n rule) = WasFound source (finding.BadScript n rule)
@@ -67,11 +67,11 @@ Finds source (finding.Rejected entry rule) = WasFound source (finding.Rejected e
 
 -- ---- what is due
 
--- names the entry and the rule
+-- the text that names the entry and the rule
 abbrev pub rejected_text : ℕ → ℕ → Text
 rejected_text entry rule = codes "rejected: entry " ++ decimal entry ++ codes ", rule " ++ decimal rule ++ 10 ∷ []
 
--- the text
+-- the text that is due for a finding
 abbrev pub text_of : Finding → Text
 text_of finding.ReadFault = line (codes "read fault" ∷ [])
 text_of (finding.BadScript n rule) = bad_script_text n rule

@@ -25,12 +25,13 @@ pub enum Finding {
     BadScript { line: u32, rule: u32 },
     /// The report is that of a legal, complete journal of the script.
     Accepted,
-    /// It isn't: the first entry that isn't as it should be, and the first rule that it breaks.
+    /// The report isn't that of a legal, complete journal of the script: the first entry that isn't as it should be, and the first rule
+    /// that it breaks.
     Rejected { entry: u64, rule: Rule },
 }
 
 impl Finding {
-    /// The status, if the verdict is written.
+    /// Returns the status with which the program ends if the verdict is written.
     pub fn status(self) -> Status
         ensures { result ≡ status_of self }
     {
@@ -43,7 +44,7 @@ impl Finding {
     }
 }
 
-/// What the report of a script comes to.
+/// Returns what the report of a script comes to.
 fn judged(alloc: Global, script: &Script, report: &[u8]) -> Result<Finding, NoMemory>
     requires fits { IsTrue (is_script script.now) }
     ensures { IfOk result (FindsReport script.now report.now) }
@@ -54,7 +55,7 @@ fn judged(alloc: Global, script: &Script, report: &[u8]) -> Result<Finding, NoMe
     }
 }
 
-/// What bytes come to: a script, and a report after it.
+/// Returns what `bytes` come to: a script, and a report after it.
 ///
 /// # Errors
 ///
@@ -70,7 +71,7 @@ pub fn finding_in(alloc: Global, bytes: &[u8]) -> Result<Finding, NoMemory>
     }
 }
 
-/// Reads all bytes of a source, at most one more than are looked at, and tells what they come to.
+/// Reads all bytes of `source`, at most one more than are looked at, and returns what they come to.
 pub fn read_finding<S: Source>(alloc: Global, source: &mut S) -> Result<Finding, NoMemory>
     ensures finds { IfOk result (Finds (record { before = S.left source.old; after = S.left source.new; faults_before = S.faults source.old; faults_after = S.faults source.new })) }
     ensures faults { OnErr result (S.faults source.new ≡ S.faults source.old) }

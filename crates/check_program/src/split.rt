@@ -7,7 +7,7 @@ ghost use Rattle.script_words.specs.Lines.{line_len};
 use script_words::cut::len_of_line;
 use script_words::words::is;
 
-/// The line that begins at a place, with its line feed.
+/// Returns the line that begins at `place`, with its line feed.
 fn line_at(bytes: &[u8], place: usize) -> &[u8]
     requires { place ≤ length bytes.now }
     ensures { result.now ≡ take (line_len (drop place bytes.now)) (drop place bytes.now) }
@@ -17,7 +17,7 @@ fn line_at(bytes: &[u8], place: usize) -> &[u8]
     line
 }
 
-/// How many bytes the script has: those up to the first line that ends it, with that line, or all.
+/// Returns the length of the script in bytes: it goes up to the first line that ends it, with that line, or to the end of `bytes`.
 pub(crate) fn len_of_script(bytes: &[u8]) -> usize
     ensures within { result ≤ length bytes.now }
     ensures script { take result bytes.now ≡ script_part bytes.now }

@@ -31,7 +31,7 @@ fn write_rejected<K: Sink>(
     write_text(text.as_bytes(), sink)
 }
 
-/// Writes the line that is due for a finding.
+/// Writes the line that is due for `finding`.
 pub fn write_finding<K: Sink>(
     alloc: Global,
     finding: Finding,

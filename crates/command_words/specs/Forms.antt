@@ -5,7 +5,7 @@ use Rattle.journal_model.specs.scripts.Reading.{number_in}
 use Rattle.command_words.specs.declared.Form.{Form}
 use Rattle.command_words.specs.declared.Form.TheVariants as form
 
--- one word alone
+-- what one word alone asks for
 abbrev pub form_of_word : Text → Option Form
 form_of_word w =
     if bytes_eq w (codes "sim") then Some (form.Sim None)
@@ -14,7 +14,7 @@ form_of_word w =
     else if bytes_eq w (codes "--version") then Some form.Version
     else None
 
--- sim, and how many turns: a plain number that 64 bits hold
+-- what the words ask for: one word alone, or sim and a limit of turns, which is a plain number of 64 bits
 abbrev pub form_of : List Text → Option Form
 form_of (w ∷ []) = form_of_word w
 form_of (w ∷ x ∷ n ∷ []) =

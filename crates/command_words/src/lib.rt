@@ -11,7 +11,7 @@ use std::alloc::Global;
 use std::marker::Model;
 use ttm_base::{ItemList, NoMemory};
 
-/// What the words ask for.
+/// What the words after the program's name ask for.
 #[derive(Clone, Copy, PartialEq, Eq)]
 pub enum Form {
     /// Run a script, with a limit of turns.
@@ -47,7 +47,7 @@ impl Words {
         }
     }
 
-    /// Puts a word at the end.
+    /// Adds `word` at the end. Without memory it leaves the words as they were.
     pub fn push(&mut self, word: &str) -> Result<(), NoMemory>
         ensures ok { OnOk result (self.new ≡ self.old ++ word.now ∷ []) }
         ensures err { OnErr result (self.new ≡ self.old) }
@@ -56,7 +56,7 @@ impl Words {
         self.words.push(word)
     }
 
-    /// The words in order.
+    /// Returns the words in order.
     pub fn items(&self) -> &[Bytes]
         ensures { result.now ≡ self.now }
     {
@@ -64,10 +64,10 @@ impl Words {
     }
 }
 
-/// The greatest number of turns that can be asked for, and one more.
+/// One more than the greatest number of turns that can be asked for.
 const PAST_MOST: u128 = 1 << 64;
 
-/// The number of a word of digits, or 2^64 where it is above that.
+/// Returns the number that `word`, a word of digits, tells, or 2^64 where it is above that.
 fn value_of(word: &[u8]) -> u128
     ensures { result ≡ min (read_on 0 word.now) 18446744073709551616 }
 {
@@ -78,7 +78,7 @@ fn value_of(word: &[u8]) -> u128
     n
 }
 
-/// A plain number that 64 bits hold.
+/// Returns the plain number of 64 bits that `word` tells, or `None` if it tells none.
 pub fn plain_number(word: &[u8]) -> Option<u64>
     ensures { result ≡ number_in 0 18446744073709551615 word.now }
 {
@@ -106,7 +106,7 @@ fn form_of_one(word: &[u8]) -> Option<Form>
     }
 }
 
-/// What the words ask for, if they are listed.
+/// Returns what the words ask for, or `None` if they ask for nothing that the program knows.
 pub fn read_words(words: &Words) -> Option<Form>
     ensures { result ≡ form_of words.now }
 {

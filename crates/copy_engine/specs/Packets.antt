@@ -1,4 +1,4 @@
--- What a packet does to stores, and shows.
+-- What a packet does to stores, and which bytes it shows.
 use Rattle.std.specs.Prelude.{◌≡◌, ℕ, List, length}
 use Rattle.ttm_base.specs.declared.Packet.{Packet}
 use Rattle.ttm_base.specs.Pages.{Page}
@@ -13,6 +13,6 @@ pub record HasRun (packet : Packet) (old new : Stores) : Type 0 where
   pub frames : length new.frames ≡ length old.frames
   pub aper : new.aper ≡ old.aper
 
--- the bytes that it shows
+-- the bytes that a packet shows
 abbrev pub shown_by : Packet → Stores → List ℕ
 shown_by packet stores = probe_piece (aperture_of stores) (bytes_of stores) packet

@@ -15,15 +15,15 @@ pub record Pushed : Type 0 where
   pub packets : List Packet
   pub ran : ℕ
 
--- the next packet, if one is left
+-- the next packet of a job, if one is left
 abbrev pub packet_of : Pushed → Option Packet
 packet_of pushed = slice_get pushed.packets pushed.ran
 
--- the job that it waits for, whatever the usage
+-- the job that it waits for, among those of all usages
 abbrev pub wait_of : List Progress → Pushed → Option JobId
 wait_of line pushed = needed Read line pushed.waits
 
--- one packet more has run
+-- the job after one more packet of it has run
 abbrev pub after_packet_of : Pushed → Pushed
 after_packet_of pushed = record pushed { ran = pushed.ran + 1 }
 
@@ -33,19 +33,19 @@ after_packet_of pushed = record pushed { ran = pushed.ran + 1 }
 abbrev pub ring_of : List (List Pushed) → ℕ → List Pushed
 ring_of rings ctx = slice_index_or rings ctx []
 
--- the job that runs, or waits
+-- the head of a ring: the job that runs, or waits
 abbrev pub head_of : List (List Pushed) → ℕ → Option Pushed
 head_of rings ctx = slice_get (ring_of rings ctx) 0
 
--- its next packet
+-- the next packet of the head
 abbrev pub next_of : List (List Pushed) → ℕ → Option Packet
 next_of rings ctx = option_and_then packet_of (head_of rings ctx)
 
--- with a job after the others of its context
+-- the rings with one more job, after the others of its context
 abbrev pub with_pushed : List (List Pushed) → Pushed → List (List Pushed)
 with_pushed rings pushed = slice_set rings pushed.job.ctx (ring_of rings pushed.job.ctx ++ pushed ∷ [])
 
--- one packet more of the head has run
+-- a ring after one more packet of its head has run
 abbrev pub head_ran : List Pushed → List Pushed
 head_ran [] = []
 head_ran (pushed ∷ ring) = after_packet_of pushed ∷ ring
@@ -53,6 +53,6 @@ head_ran (pushed ∷ ring) = after_packet_of pushed ∷ ring
 abbrev pub with_ran : List (List Pushed) → ℕ → List (List Pushed)
 with_ran rings ctx = slice_set rings ctx (head_ran (ring_of rings ctx))
 
--- without its head
+-- the rings without the head of a context
 abbrev pub without_head : List (List Pushed) → ℕ → List (List Pushed)
 without_head rings ctx = slice_set rings ctx (drop 1 (ring_of rings ctx))

@@ -1,4 +1,5 @@
-//! Rings of jobs for engines: of each context the jobs in the order in which they were pushed, each packet once and in order.
+//! Rings of jobs for engines: the jobs of each context run in the order in which they were pushed, each packet once and in
+//! order.
 #![tactic(auto)]
 
 ghost use Rattle.std.specs.Prelude.{◌≡◌, ◌^◌, ◌<◌, Some, None, [], IsSome, IfOk, OnOk, OnErr, length, replicate};
@@ -26,7 +27,7 @@ pub struct Rings {
     rings: Vec<Ring>,
 }
 
-/// By hand, so that no crate above proves how each part goes.
+/// Names each part, so that no crate above proves how they are dropped.
 impl Drop for Rings {
     fn drop(self) {
         let Self { rings: _ } = self;
@@ -47,7 +48,7 @@ impl Model for Rings {
 }
 
 impl Rings {
-    /// An empty ring for each of so many contexts.
+    /// Returns an empty ring for each of `contexts` contexts.
     pub fn new(alloc: Global, contexts: u32) -> Result<Rings, NoMemory>
         ensures { IfOk result (λ rings. rings ≡ replicate contexts []) }
     {
@@ -58,14 +59,15 @@ impl Rings {
         Ok(Rings { rings })
     }
 
-    /// How many contexts there are.
+    /// Returns the number of contexts.
     pub fn contexts(&self) -> u32
         ensures { result ≡ length self.now }
     {
         self.rings.len() as u32
     }
 
-    /// Puts a job last in its context's ring. It waits for all jobs that `waits` keeps, and none of its packets has run.
+    /// Pushes a job at the end of the ring of its context. It waits for all jobs that `waits` keeps, and none of its packets
+    /// has run. Where memory is refused the rings stay as they were.
     pub fn push(
         &mut self,
         job: JobId,
@@ -83,7 +85,7 @@ impl Rings {
         ring.push(RingJob::new(job, waits, packets))
     }
 
-    // The head of a context's ring.
+    // Returns the head of the ring of the context `ctx`, if there is one.
     fn first(&self, ctx: u32) -> Option<&RingJob>
         requires { ctx < length self.now }
         ensures { option_copied result ≡ head_of self.now ctx }
@@ -91,7 +93,7 @@ impl Rings {
         self.rings[ctx as usize].first()
     }
 
-    /// The job at the head of a context's ring, if there is one.
+    /// Returns the job at the head of the ring of the context `ctx`, if there is one.
     pub fn head(&self, ctx: u32) -> Option<JobId>
         requires { ctx < length self.now }
         ensures { result ≡ option_map (λ pushed. pushed.job) (head_of self.now ctx) }
@@ -99,7 +101,8 @@ impl Rings {
         Some(self.first(ctx)?.job())
     }
 
-    /// The job that the head waits for, as `FenceSet::need` names it among all usages.
+    /// Returns a job that the head waits for, as `FenceSet::need` names it among all usages. None means that the head is
+    /// ready.
     pub fn ready(&self, ctx: u32, line: &Timeline) -> Option<JobId>
         requires known { ctx < length self.now }
         requires line { length line.now ≡ length self.now }
@@ -109,7 +112,7 @@ impl Rings {
         self.rings[ctx as usize].first()?.wait(line)
     }
 
-    /// The head's next packet, if one is left.
+    /// Returns the next packet of the head, if one is left.
     pub fn next_packet(&self, ctx: u32) -> Option<&Packet>
         requires known { ctx < length self.now }
         requires head { IsSome (head_of self.now ctx) }
@@ -118,7 +121,7 @@ impl Rings {
         self.first(ctx)?.next()
     }
 
-    /// How many of the head's packets have run.
+    /// Returns how many packets of the head have run.
     pub fn ran(&self, ctx: u32) -> u32
         requires known { ctx < length self.now }
         requires head { IsSome (head_of self.now ctx) }
@@ -130,8 +133,8 @@ impl Rings {
         }
     }
 
-    /// Runs the head's next packet, and gives its number among the head's, from 0. Whether the head is ready is the caller's
-    /// care.
+    /// Runs the next packet of the head, and returns its number among the head's packets, from 0. The caller has to take
+    /// care that the head is ready.
     pub fn run_next(&mut self, ctx: u32, stores: &mut Stores, out: &mut ProbeBytes) -> u32
         requires known { ctx < length self.old }
         requires left { IsSome (next_of self.old ctx) }

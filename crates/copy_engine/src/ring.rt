@@ -28,7 +28,7 @@ impl Model for Ring {
 }
 
 impl Ring {
-    /// No job.
+    /// Returns a ring without a job.
     pub(crate) fn new(alloc: Global) -> Ring
         ensures { result ≡ [] }
     {
@@ -37,7 +37,7 @@ impl Ring {
         }
     }
 
-    /// Puts a job after the others.
+    /// Pushes a job at the end. Where memory is refused the ring stays as it was.
     pub(crate) fn push(&mut self, job: RingJob) -> Result<(), NoMemory>
         ensures ok { OnOk result (self.new ≡ self.old ++ job ∷ []) }
         ensures err { OnErr result (self.new ≡ self.old) }
@@ -46,14 +46,14 @@ impl Ring {
         Ok(())
     }
 
-    /// The first job.
+    /// Returns the first job, if there is one.
     pub(crate) fn first(&self) -> Option<&RingJob>
         ensures { option_copied result ≡ slice_get self.now 0 }
     {
         self.jobs.front()
     }
 
-    /// Runs the next packet of the first job, and gives its number.
+    /// Runs the next packet of the first job, and returns its number among the job's packets, from 0.
     pub(crate) fn run_next(&mut self, stores: &mut Stores, out: &mut ProbeBytes) -> u32
         requires left { IsSome (option_and_then packet_of (slice_get self.old 0)) }
         requires can { (packet : Piece) → option_and_then packet_of (slice_get self.old 0) ≡ Some packet → CanRun stores.old packet }

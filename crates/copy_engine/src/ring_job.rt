@@ -10,7 +10,7 @@ use fence_core::{FenceSet, Timeline};
 use std::marker::Model;
 use ttm_base::{JobId, Packet, Usage};
 
-/// A job in a ring.
+/// A job in a ring, with the jobs that it waits for, its packets, and the number of them that have run.
 pub struct RingJob {
     job: JobId,
     waits: FenceSet,
@@ -18,7 +18,7 @@ pub struct RingJob {
     ran: u32,
 }
 
-/// By hand, so that no crate above proves how each part goes.
+/// Names each part, so that no crate above proves how they are dropped.
 impl Drop for RingJob {
     fn drop(self) {
         let Self {
@@ -42,7 +42,7 @@ impl Model for RingJob {
 }
 
 impl RingJob {
-    /// A job of which no packet has run.
+    /// Returns a job of which no packet has run.
     pub(crate) fn new(job: JobId, waits: FenceSet, packets: Vec<Packet>) -> RingJob
         requires { length packets.items < 2 ^ 32 }
         ensures { result ≡ record { job = job; waits = waits; packets = packets.items; ran = 0 } }
@@ -61,7 +61,7 @@ impl RingJob {
         self.job
     }
 
-    /// The job that it waits for.
+    /// Returns a job that this one waits for, or None where all of those are done.
     pub(crate) fn wait(&self, line: &Timeline) -> Option<JobId>
         requires { length self.now.waits ≡ length line.now }
         ensures { result ≡ wait_of line.now self.now }
@@ -69,21 +69,21 @@ impl RingJob {
         self.waits.need(Usage::Read, line)
     }
 
-    /// Its next packet, if one is left.
+    /// Returns the next packet of the job, if one is left.
     pub(crate) fn next(&self) -> Option<&Packet>
         ensures { option_copied result ≡ packet_of self.now }
     {
         self.packets.get(self.ran as usize)
     }
 
-    /// How many of its packets have run.
+    /// Returns how many packets of the job have run.
     pub(crate) fn ran(&self) -> u32
         ensures { result ≡ self.now.ran }
     {
         self.ran
     }
 
-    /// Runs its next packet, and gives its number.
+    /// Runs the next packet of the job, and returns its number among the job's packets, from 0.
     pub(crate) fn run_next(&mut self, stores: &mut Stores, out: &mut ProbeBytes) -> u32
         requires left { IsSome (packet_of self.old) }
         requires can { (packet : Piece) → packet_of self.old ≡ Some packet → CanRun stores.old packet }

@@ -4,11 +4,11 @@ use Rattle.ttm_base.specs.Pages.{Page, nowhere, vram, frame, slot, PageBytes, Ap
 use Rattle.aperture_table.specs.Translation.{frame_at}
 use Rattle.copy_packet.specs.declared.stores.Stores.{Stores}
 
--- the byte of a page at an offset, in the bytes of pages one after the other; zeros follow each page
+-- the byte of a page at an offset, among the bytes of pages one after the other; past the end of a page there are zeros
 abbrev pub byte_at : List ℕ → ℕ → ℕ → ℕ
 byte_at bytes page off = if nat_lt off 4096 then slice_index bytes (4096 * page + off) else 0
 
--- the bytes of all pages; engines reach no slot
+-- the bytes of all pages; engines reach no swap slot
 abbrev pub bytes_of : Stores → PageBytes
 bytes_of s nowhere off = 0
 bytes_of s (vram p) off = byte_at s.vram p off
@@ -19,7 +19,7 @@ bytes_of s (slot k) off = 0
 abbrev pub aperture_of : Stores → Aperture
 aperture_of s page = frame_at s.aper page
 
--- so many bytes have the page
+-- a list of bytes has the page
 abbrev pub HasPage : List ℕ → ℕ → Type 0
 HasPage bytes page = 4096 * page + 4096 ≤ length bytes
 

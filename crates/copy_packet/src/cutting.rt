@@ -8,14 +8,14 @@ use op_cutting::PageNames;
 use std::alloc::Global;
 use ttm_base::{BufId, NoMemory, Op, Packet, PagePlace};
 
-/// The first row of a buffer.
+/// Returns the first row of the buffer `b`, if there is one.
 fn row_of(table: &[PlaceRow], b: BufId) -> Option<&PlaceRow>
     ensures { option_copied result ≡ find (λ row. row.b.0 == b.0) table.now }
 {
     table.iter().find(|row| row.b.0 == b.0)
 }
 
-/// How packets name a page of a row.
+/// Returns the name that packets use for the page `page` of a row, which is frame 0 where the row has no such page.
 fn name_in(row: Option<&PlaceRow>, page: u32) -> PagePlace
     ensures { result ≡ rows.name_in (option_copied row.entry) page }
 {
@@ -28,7 +28,7 @@ fn name_in(row: Option<&PlaceRow>, page: u32) -> PagePlace
     }
 }
 
-/// The names of pages that rows tell.
+/// The names of pages as the rows of a table give them.
 #[derive(Drop)]
 struct Rows<'a> {
     places: &'a PlaceMap,
@@ -43,7 +43,7 @@ impl PageNames for Rows<'_> {
 }
 
 /// Cuts operations, in order and each from its lowest byte, at every page border of their buffers. Each operation should lie
-/// inside its buffers, which have rows: a page of which no row tells is taken for frame 0.
+/// inside its buffers, which have rows: a page without a row is taken for frame 0.
 pub fn cut(alloc: Global, ops: &[Op], places: &PlaceMap) -> Result<Vec<Packet>, NoMemory>
     ensures { IfOk result (λ packets. packets.items ≡ words.packets_of (page_map places.now) ops.now) }
 {

@@ -1,4 +1,4 @@
-//! Packets: operations are cut into them at page borders, and each is run on the stores of VRAM and of frames.
+//! Packets: operations are cut into packets at page borders, and each packet is run on the stores of VRAM and of frames.
 #![tactic(auto)]
 
 mod cutting;

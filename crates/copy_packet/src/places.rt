@@ -1,14 +1,14 @@
 use ttm_base::{BufId, ItemList, PagePlace};
 
-/// How packets name the pages of a buffer, page after page.
+/// The names that packets use for the pages of a buffer, page after page.
 pub type PagePlaces = ItemList<PagePlace>;
 
-/// A buffer, and how packets name its pages.
+/// A buffer, and the names that packets use for its pages.
 #[derive(Drop)]
 pub struct PlaceRow {
     pub b: BufId,
     pub pages: PagePlaces,
 }
 
-/// The buffers of a job, each with its pages.
+/// The buffers of a job, each with the names of its pages.
 pub type PlaceMap = ItemList<PlaceRow>;

@@ -4,10 +4,10 @@ use std::alloc::Global;
 use std::marker::Model;
 use ttm_base::NoMemory;
 
-/// How many bytes a probe shows at most.
+/// The greatest number of bytes that a probe shows.
 const ROOM: usize = 256;
 
-/// The bytes that a probe or a read shows, seen as a list of at most 256. Nothing but `new` takes memory.
+/// The bytes that a probe or a read shows, seen as a list of at most 256. Only `new` takes memory.
 #[derive(Drop)]
 pub struct ProbeBytes {
     bytes: Vec<u8>,
@@ -24,7 +24,7 @@ impl Model for ProbeBytes {
 }
 
 impl ProbeBytes {
-    /// No bytes, and room for 256.
+    /// Returns no bytes, with memory for 256.
     pub fn new(alloc: Global) -> Result<ProbeBytes, NoMemory>
         ensures { IfOk result (λ out. out ≡ []) }
     {
@@ -39,7 +39,7 @@ impl ProbeBytes {
         self.bytes.as_slice()
     }
 
-    /// Puts other bytes in the place of all.
+    /// Replaces all bytes by `bytes`.
     pub fn set(&mut self, bytes: &[u8])
         requires { length bytes.now ≤ 256 }
         ensures { self.new ≡ bytes.now }
@@ -48,7 +48,7 @@ impl ProbeBytes {
         self.bytes.extend_from_slice(bytes).unwrap();
     }
 
-    /// Adds bytes after those that there are, at most 256 in all.
+    /// Appends `bytes`, where there are at most 256 in all.
     pub fn extend(&mut self, bytes: &[u8])
         requires { length self.old + length bytes.now ≤ 256 }
         ensures { self.new ≡ self.old ++ bytes.now }
@@ -56,7 +56,7 @@ impl ProbeBytes {
         self.bytes.extend_from_slice(bytes).unwrap();
     }
 
-    /// Takes all bytes out.
+    /// Drops all bytes.
     pub(crate) fn clear(&mut self)
         ensures { self.new ≡ [] }
     {

@@ -8,7 +8,7 @@ use crate::probe::ProbeBytes;
 use crate::stores::Stores;
 use ttm_base::Packet;
 
-/// Shows the bytes that a packet probes, or none, and does nothing else. Takes no memory.
+/// Puts the bytes that a packet probes into `out`, or none if it is no probe, and changes nothing else. Takes no memory.
 pub fn show(packet: &Packet, stores: &Stores, out: &mut ProbeBytes)
     requires { CanRun stores.now packet.now }
     ensures { out.new ≡ probe_piece (aperture_of stores.now) (bytes_of stores.now) packet.now }
@@ -20,8 +20,8 @@ pub fn show(packet: &Packet, stores: &Stores, out: &mut ProbeBytes)
     }
 }
 
-/// Does a packet, and shows the bytes that it probes, or none. Takes no memory. Source and target may overlap: all bytes are
-/// read before one is written.
+/// Runs a packet, and puts the bytes that it probes into `out`, or none if it is no probe. Takes no memory. Source and
+/// target may overlap: all bytes are read before one is written.
 pub fn run(packet: &Packet, stores: &mut Stores, out: &mut ProbeBytes)
     requires { CanRun stores.old packet.now }
     ensures bytes { (page : Page) (off : ℕ) → bytes_of stores.new page off ≡ after_packet (aperture_of stores.old) (bytes_of stores.old) packet.now page off }

@@ -15,7 +15,7 @@ pub struct Stores {
     pub aper: Aperture,
 }
 
-/// By hand, so that no crate above proves how each part goes.
+/// Names each part, so that no crate above proves how they are dropped.
 impl Drop for Stores {
     fn drop(self) {
         let Self {
@@ -26,14 +26,14 @@ impl Drop for Stores {
     }
 }
 
-/// A place of a byte: in VRAM, or in frames.
+/// The position of a byte: in VRAM, or in frames.
 #[derive(Clone, Copy, PartialEq, Eq)]
 pub(crate) enum Spot {
     Vram(u64),
     Frames(u64),
 }
 
-/// The place of a byte in its store.
+/// Returns the position in its store of the byte at offset `off` of a page.
 fn position(page: u32, off: u32) -> u64
     ensures { result ≡ 4096 * page + off }
 {
@@ -41,7 +41,7 @@ fn position(page: u32, off: u32) -> u64
 }
 
 impl Stores {
-    /// The place of a byte of a page that a packet names.
+    /// Returns the position of the byte at offset `off` of the page that a packet names.
     pub(crate) fn spot(&self, place: PagePlace, off: u32) -> Spot
         requires { IsThere self.now (translated (aperture_of self.now) place) }
         ensures { result ≡ spot_at (translated (aperture_of self.now) place) off }
@@ -58,7 +58,7 @@ impl Stores {
         }
     }
 
-    /// Lends bytes, at most a page of them, from a place on.
+    /// Lends `len` bytes, at most a page of them, from a position on.
     pub(crate) fn part(&self, spot: Spot, len: u64) -> &[u8]
         requires page { len ≤ PAGE }
         requires fits { Fits self.now spot len }
@@ -70,7 +70,7 @@ impl Stores {
         }
     }
 
-    /// Puts one byte at places from one on.
+    /// Fills the `len` bytes from a position on with `byte`.
     pub(crate) fn fill(&mut self, to: Spot, len: u64, byte: u8)
         requires { Fits self.old to len }
         ensures after { self.new ≡ after_write self.old to (filled len byte) }
@@ -83,7 +83,7 @@ impl Stores {
         }
     }
 
-    /// Copies bytes, at most a page of them.
+    /// Copies `len` bytes, at most a page of them, from position `from` to position `to`.
     pub(crate) fn copy(&mut self, to: Spot, from: Spot, len: u64)
         requires page { len ≤ PAGE }
         requires target { Fits self.old to len }
@@ -104,7 +104,7 @@ impl Stores {
         }
     }
 
-    /// Makes bytes, at most a page of them, their exclusive or with others.
+    /// Replaces `len` bytes at position `to`, at most a page of them, by their exclusive or with those at position `from`.
     pub(crate) fn xor(&mut self, to: Spot, from: Spot, len: u64)
         requires page { len ≤ PAGE }
         requires target { Fits self.old to len }

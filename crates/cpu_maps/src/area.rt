@@ -1,4 +1,4 @@
-//! What one thread's mapping of one buffer knows.
+//! The mapping of one buffer by one thread.
 ghost use Rattle.std.specs.Prelude.{◌≡◌, None, IfOk, map, replicate};
 ghost use Rattle.cpu_maps.specs.Areas as words;
 ghost use Rattle.cpu_maps.specs.Areas.{empty_area, entry_of, with_entry, emptied, with_fault, without_page, without_buffer, unmapped};
@@ -7,10 +7,10 @@ use state_words::same_buffer;
 use std::alloc::Global;
 use ttm_base::{BufId, ItemList, NoMemory, PagePlace};
 
-/// Of each page of a buffer the place that an access found, or None.
+/// For each page of a buffer the place that an access found, or None.
 pub type Entries = ItemList<Option<PagePlace>>;
 
-/// What a thread's mapping of a buffer knows (vm_area_struct).
+/// The mapping of a buffer by a thread, with its entries (vm_area_struct).
 #[derive(Drop)]
 pub struct Area {
     pub thread: u32,
@@ -18,7 +18,7 @@ pub struct Area {
     pub entries: Entries,
 }
 
-/// No entry for each of so many pages.
+/// Returns entries of `pages` pages, all of them None.
 fn no_entries(alloc: Global, pages: u32) -> Result<Entries, NoMemory>
     ensures { IfOk result (λ entries. entries ≡ replicate pages None) }
 {
@@ -29,7 +29,7 @@ fn no_entries(alloc: Global, pages: u32) -> Result<Entries, NoMemory>
     Ok(entries)
 }
 
-/// Takes all entries out.
+/// Removes all entries.
 fn clear(entries: &mut Entries)
     ensures { entries.new ≡ map (λ entry. None) entries.old }
 {
@@ -39,7 +39,7 @@ fn clear(entries: &mut Entries)
 }
 
 impl Area {
-    /// Of so many pages, without an entry.
+    /// Returns an area of `pages` pages, without an entry.
     pub(crate) fn new(alloc: Global, thread: u32, b: BufId, pages: u32) -> Result<Area, NoMemory>
         ensures { IfOk result (λ area. area ≡ empty_area thread b pages) }
     {
@@ -47,14 +47,14 @@ impl Area {
         Ok(Area { thread, b, entries })
     }
 
-    /// It is the thread's, and of the buffer.
+    /// Returns whether the area is a mapping of the buffer `b` by the thread `thread`.
     pub(crate) fn is_of(&self, thread: u32, b: BufId) -> bool
         ensures { result ≡ words.is_of thread b self.now }
     {
         self.thread == thread && same_buffer(self.b, b)
     }
 
-    /// The entry of a page.
+    /// Returns the entry of a page, or None where it has none.
     pub(crate) fn entry(&self, page: u32) -> Option<PagePlace>
         ensures { result ≡ entry_of page self.now }
     {
@@ -64,7 +64,7 @@ impl Area {
         }
     }
 
-    /// Gives a page an entry, or takes it away.
+    /// Sets the entry of a page, or removes it.
     #[tactic(auto, using(crate::proofs::Setting::set_beyond))]
     fn set(&mut self, page: u32, entry: Option<PagePlace>)
         ensures { self.new ≡ with_entry page entry self.old }
@@ -74,7 +74,7 @@ impl Area {
         }
     }
 
-    /// Gives a page an entry, if the area is the thread's and of the buffer.
+    /// Sets the entry of a page, if the area is a mapping of the buffer `b` by the thread `thread`.
     pub(crate) fn fault_in(&mut self, thread: u32, b: BufId, page: u32, place: PagePlace)
         ensures { self.new ≡ with_fault thread b page place self.old }
     {
@@ -83,7 +83,7 @@ impl Area {
         }
     }
 
-    /// Takes the entry of a page away, if the area is of the buffer.
+    /// Removes the entry of a page, if the area is a mapping of the buffer `b`.
     pub(crate) fn drop_page(&mut self, b: BufId, page: u32)
         ensures { self.new ≡ without_page b page self.old }
     {
@@ -92,7 +92,7 @@ impl Area {
         }
     }
 
-    /// Takes all entries out, if the area is of the buffer.
+    /// Removes all entries, if the area is a mapping of the buffer `b`.
     pub(crate) fn drop_buffer(&mut self, b: BufId)
         ensures { self.new ≡ without_buffer b self.old }
     {
@@ -101,7 +101,7 @@ impl Area {
         }
     }
 
-    /// Takes all entries out, if the area is the thread's and of the buffer.
+    /// Removes all entries, if the area is a mapping of the buffer `b` by the thread `thread`.
     pub(crate) fn unmap(&mut self, thread: u32, b: BufId)
         ensures { self.new ≡ unmapped thread b self.old }
     {

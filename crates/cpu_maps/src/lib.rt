@@ -1,4 +1,4 @@
-//! What mappings of buffers by the CPU know: of each page the place that an access found (vm_area_struct, ttm_bo_vm_fault).
+//! Mappings of buffers by the CPU: for each page the place that an access found (vm_area_struct, ttm_bo_vm_fault).
 #![tactic(auto)]
 
 mod area;

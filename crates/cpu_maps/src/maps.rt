@@ -9,14 +9,14 @@ use std::alloc::Global;
 use std::marker::Model;
 use ttm_base::{BufId, ItemList, NoMemory, PagePlace};
 
-/// The mappings of a script, seen as a list: one for each buffer that a thread maps anywhere, in the order of the first lines that do so. Mapped
-/// again, the buffer has the same one, which its unmap has emptied. A change of what isn't there changes nothing. Only `new` takes memory: room for
-/// each page of each of them.
+/// The CPU mappings of a script, seen as a list: one for each buffer that a thread maps anywhere, in the order of the first
+/// lines that do so. A buffer that is mapped again gets the same mapping, which its unmap has emptied. A change of a mapping
+/// that isn't there changes nothing. Only `new` takes memory: room for each page of each of them.
 pub struct CpuMaps {
     areas: ItemList<Area>,
 }
 
-/// By hand, so that no crate above proves how each part goes.
+/// Names each part, so that no crate above proves how they are dropped.
 impl Drop for CpuMaps {
     fn drop(self) {
         let Self { areas: _ } = self;
@@ -32,14 +32,14 @@ impl Model for CpuMaps {
     ghost view = { λ maps. maps.areas };
 }
 
-/// The thread has an area of the buffer.
+/// Returns whether the thread has an area of the buffer.
 fn has_area(areas: &[Area], thread: u32, b: BufId) -> bool
     ensures { result ≡ list_any (is_of thread b) areas.now }
 {
     areas.iter().any(|area| area.is_of(thread, b))
 }
 
-/// The thread's area of the buffer.
+/// Returns the thread's area of the buffer, if there is one.
 fn area_in(areas: &[Area], thread: u32, b: BufId) -> Option<&Area>
     ensures { option_copied result ≡ find (is_of thread b) areas.now }
 {
@@ -47,7 +47,7 @@ fn area_in(areas: &[Area], thread: u32, b: BufId) -> Option<&Area>
 }
 
 impl CpuMaps {
-    /// No page has an entry.
+    /// Returns the mappings of a script, in which no page has an entry.
     pub fn new(alloc: Global, script: &Script) -> Result<CpuMaps, NoMemory>
         ensures { IfOk result (λ maps. maps ≡ areas_of script.now) }
     {
@@ -62,7 +62,7 @@ impl CpuMaps {
         Ok(maps)
     }
 
-    /// Adds an area without an entry, unless the thread has one of the buffer.
+    /// Adds an area without an entry, unless the thread already has one of the buffer.
     fn add(&mut self, alloc: Global, thread: u32, b: BufId, pages: u32) -> Result<(), NoMemory>
         ensures { OnOk result (self.new ≡ with_area thread b pages self.old) }
     {
@@ -73,14 +73,14 @@ impl CpuMaps {
         self.areas.push(area)
     }
 
-    /// The mappings, in order.
+    /// Lends the mappings, in order.
     pub fn areas(&self) -> &[Area]
         ensures { result.now ≡ self.now }
     {
         self.areas.items()
     }
 
-    /// The place that a thread's mapping of a buffer has for a page.
+    /// Returns the place that a thread's mapping of a buffer has for a page, or None where it has none.
     pub fn entry(&self, thread: u32, b: BufId, page: u32) -> Option<PagePlace>
         ensures { result ≡ entry_in self.now thread b page }
     {
@@ -90,7 +90,7 @@ impl CpuMaps {
         }
     }
 
-    /// Gives a page of a thread's mapping a place: an access has found it there (ttm_bo_vm_fault).
+    /// Sets the place of a page in a thread's mapping of a buffer, where an access has found it (ttm_bo_vm_fault).
     pub fn fault_in(&mut self, thread: u32, b: BufId, page: u32, place: PagePlace)
         ensures { self.new ≡ map (with_fault thread b page place) self.old }
     {
@@ -99,7 +99,7 @@ impl CpuMaps {
         }
     }
 
-    /// Takes the entries of a page out of all mappings of its buffer: the page leaves.
+    /// Removes the entries of a page from all mappings of its buffer, since the page leaves its place.
     pub fn drop_page(&mut self, b: BufId, page: u32)
         ensures { self.new ≡ map (without_page b page) self.old }
     {
@@ -108,7 +108,7 @@ impl CpuMaps {
         }
     }
 
-    /// Takes all entries out of all mappings of a buffer: it moves, or goes (ttm_bo_unmap_virtual).
+    /// Removes all entries from all mappings of a buffer, since it is moved or destroyed (ttm_bo_unmap_virtual).
     pub fn drop_buffer(&mut self, b: BufId)
         ensures { self.new ≡ map (without_buffer b) self.old }
     {
@@ -117,7 +117,7 @@ impl CpuMaps {
         }
     }
 
-    /// Takes all entries out of a thread's mapping of a buffer (munmap).
+    /// Removes all entries from a thread's mapping of a buffer (munmap).
     pub fn unmap(&mut self, thread: u32, b: BufId)
         ensures { self.new ≡ map (unmapped thread b) self.old }
     {

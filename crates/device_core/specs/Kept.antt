@@ -10,7 +10,7 @@ use Rattle.journal_model.specs.statements.DeadEnd.{can_step}
 use Rattle.journal_model.specs.statements.Scheduled.{own_order}
 pub use Rattle.room_state.specs.room_turns.Turns.{Kept, state_behind, world_behind, with_entry, entry_of, after_step}
 
--- the answer to a turn of an actor whose next entry is this one, or that needs this, where the journal isn't complete
+-- the answer to a turn of an actor with the given next entry or need, where the journal isn't complete
 abbrev pub answer_of : Kept → Result Entry Need → Turn
 answer_of k (Ok e) = turn.Made (length k.journal + 1)
 answer_of k (Err need) = turn.Blocked need
@@ -31,11 +31,11 @@ goes_on k who = can_step k.script (state_behind k) who
 abbrev pub order_of : Kept → List Actor
 order_of k = own_order k.script (state_behind k)
 
--- the first of them that has one
+-- the first actor in that order that has an entry
 abbrev pub next_actor : Kept → Option Actor
 next_actor k = find (goes_on k) (order_of k)
 
--- the device with the entry of this actor, if there is one
+-- the device with the entry of the actor, if there is one
 abbrev pub after_found : Kept → Option Actor → Kept
 after_found k None = k
 after_found k (Some who) = after_step k (entry_of k who)

@@ -31,7 +31,7 @@ pub struct Device {
     maps: CpuMaps,
 }
 
-/// By hand, so that no crate above has to prove how each part goes.
+/// Written by hand, so that no crate above has to prove how each part is dropped.
 impl Drop for Device {
     fn drop(self) {
         let Self {
@@ -54,7 +54,7 @@ impl Model for Device {
 }
 
 impl Device {
-    /// A device that hasn't begun.
+    /// Makes a device that hasn't begun.
     ///
     /// # Errors
     ///
@@ -68,14 +68,15 @@ impl Device {
         Ok(Device { alloc, rooms, maps })
     }
 
-    /// The script that is run.
+    /// Returns the script that is run.
     pub fn script(&self) -> &Script
         ensures { result.now ≡ self.now.script }
     {
         self.rooms.script()
     }
 
-    /// Lends the entries so far, which are legal and transparent: each read and each probe shows the bytes of a memory in which no buffer ever moves.
+    /// Returns the entries so far, which are legal and transparent: each read and each probe shows the bytes of a memory in which no buffer ever
+    /// moves.
     pub fn journal(&self) -> &[Entry]
         ensures journal { result.now ≡ self.now.journal }
         ensures legal { IsLegal self.now.script self.now.journal }
@@ -84,15 +85,15 @@ impl Device {
         self.rooms.journal()
     }
 
-    /// The parts, with what they tell of the state that the entries lead to.
+    /// Returns the parts, with what they tell of the state that the entries lead to.
     pub fn rooms(&self) -> &Rooms
         ensures { result.now ≡ self.now }
     {
         &self.rooms
     }
 
-    /// Lends what mappings of buffers by the CPU know: of each page the entry that the journal gives the mapping that stands, and no other. Each entry
-    /// names the place that the page has now.
+    /// Returns what the CPU's mappings of buffers know: of each page the entry that the journal gives the mapping that stands, and no other. Each
+    /// entry names the place that the page has now.
     pub fn maps(&self) -> &CpuMaps
         ensures places { NamePlaces self.now result.now }
         ensures exact { KnowExactly self.now.script (made_of self.now.script self.now.journal) result.now }
@@ -100,7 +101,7 @@ impl Device {
         &self.maps
     }
 
-    /// How the pages, frames and slots are held.
+    /// Counts how the pages, frames and slots are held.
     pub fn accounts(&self) -> Accounts
         ensures { AreAccountsOf self.now.script (state_of self.now.script self.now.journal).core result }
     {
@@ -108,7 +109,7 @@ impl Device {
         accounts_of(rooms.parts(), rooms.script(), rooms.journal())
     }
 
-    /// Every command is answered, every job is done and there is no ghost. Until then some actor has an entry.
+    /// Returns whether every command is answered, every job is done and there is no ghost. Until then some actor has an entry.
     pub fn over(&self) -> bool
         ensures complete { result ≡ is_complete self.now.script self.now.journal }
         ensures goes_on { (result ≡ false) ↔ SomeGoesOn self.now.script (state_of self.now.script self.now.journal) }
@@ -116,7 +117,7 @@ impl Device {
         self.rooms.over()
     }
 
-    /// The number of the last job of a context that is done, or 0.
+    /// Returns the number of the last job of context `ctx` that is done, or 0.
     pub(crate) fn reached(&self, ctx: u32) -> u64
         ensures { result ≡ done_of self.now.journal ctx }
     {
@@ -128,7 +129,7 @@ impl Device {
         }
     }
 
-    /// Has an actor make its entry, if it has one, and mappings follow it.
+    /// Makes the next entry of the actor `who`, if it has one, and lets the mappings follow it.
     fn turn(&mut self, who: Actor) -> Result<Step, NoMemory>
         ensures step { IfOk result (λ step. step ≡ step_of (entry_of self.old who)) }
         ensures made { OnOk result (self.new ≡ after_step self.old (entry_of self.old who)) }
@@ -141,7 +142,7 @@ impl Device {
         Ok(step)
     }
 
-    /// Takes a turn of an actor. After it each entry that a mapping has names the place that its page has then.
+    /// Takes a turn of the actor `who`. After it each entry that a mapping has names the place that its page has then.
     ///
     /// # Errors
     ///
@@ -161,7 +162,7 @@ impl Device {
         }
     }
 
-    /// Has an actor make its entry, if it has one.
+    /// Makes the next entry of the actor `who`, and returns whether it has one.
     fn try_step(&mut self, who: Actor) -> Result<bool, NoMemory>
         ensures had { IfOk result (λ had. had ≡ goes_on self.old who) }
         ensures made { OnOk result (self.new ≡ after_step self.old (entry_of self.old who)) }
@@ -173,7 +174,7 @@ impl Device {
         }
     }
 
-    /// Has the first of these actors that has an entry make it.
+    /// Makes the next entry of the first of `actors` that has one, and returns that actor, or None where none has one.
     fn step_first(&mut self, actors: &[Actor]) -> Result<Option<Actor>, NoMemory>
         ensures found { IfOk result (λ found. found ≡ find (goes_on self.old) actors.now) }
         ensures made { OnOk result (self.new ≡ after_found self.old (find (goes_on self.old) actors.now)) }
@@ -187,7 +188,7 @@ impl Device {
         Ok(None)
     }
 
-    /// The actors in the order in which the simulator looks for one that has an entry.
+    /// Returns the actors in the order in which the simulator looks for one that has an entry.
     fn order(&self) -> Result<ItemList<Actor>, NoMemory>
         ensures { IfOk result (λ order. order ≡ order_of self.now) }
     {
@@ -195,8 +196,8 @@ impl Device {
         own_order(self.alloc, rooms.parts(), rooms.script(), rooms.journal())
     }
 
-    /// A turn where no schedule says whose: the first actor in the simulator's own order that has an entry makes it. Answers which it
-    /// was; none, where nobody has an entry.
+    /// Takes a turn where no schedule says whose: the first actor in the simulator's own order that has an entry makes it. Returns that actor, or
+    /// None where no actor has an entry.
     ///
     /// # Errors
     ///

@@ -10,7 +10,7 @@ use journal_model::Entry;
 use map_follow::{answerer, end_mappings, fault_in, found_by, leave};
 use room_state::Rooms;
 
-/// Does to mappings what the last entry does, which answers a thread: what it found has entries, and mappings end after it.
+/// Does to `maps` what the last entry does, which answers `thread`: what it found has entries, and mappings end after it.
 fn follow_answer(maps: &mut CpuMaps, rooms: &Rooms, before: &[Entry], entry: &Entry, thread: u32)
     requires last { rooms.now.journal ≡ before.now ++ entry.now ∷ [] }
     requires who { words.answerer entry.now ≡ Some thread }
@@ -26,7 +26,7 @@ fn follow_answer(maps: &mut CpuMaps, rooms: &Rooms, before: &[Entry], entry: &En
     end_mappings(maps, script, thread, answered);
 }
 
-/// Does to mappings what the last entry does. It takes no memory; without mappings constant time, else that of a walk of the script's marks where
+/// Does to `maps` what the last entry does. Takes no memory. Takes constant time without mappings, else that of a walk of the script's marks where
 /// the entry answers a thread, of the mappings, and of the pages whose entries go.
 pub(crate) fn follow(maps: &mut CpuMaps, rooms: &Rooms)
     ensures { (before : List OneEntry) (entry : OneEntry) → rooms.now.journal ≡ before ++ entry ∷ [] → maps.new ≡ areas_after rooms.now.script (state_of rooms.now.script before) entry maps.old }

@@ -27,22 +27,22 @@ use Rattle.journal_model.specs.scripts.FirstFault.{ends_line, without_end}
 
 -- ---- parts that are all there, or none
 
--- of two
+-- a value of two parts
 abbrev pub with_two : {A B C : Type 0} → (A → B → C) → Option A → Option B → Option C
 with_two f None b = None
 with_two f (Some a) b = option_map (f a) b
 
--- of three
+-- a value of three parts
 abbrev pub with_three : {A B C D : Type 0} → (A → B → C → D) → Option A → Option B → Option C → Option D
 with_three f None b c = None
 with_three f (Some a) b c = with_two (f a) b c
 
--- of four
+-- a value of four parts
 abbrev pub with_four : {A B C D E : Type 0} → (A → B → C → D → E) → Option A → Option B → Option C → Option D → Option E
 with_four f None b c d = None
 with_four f (Some a) b c d = with_three (f a) b c d
 
--- each of the words
+-- what each of the words tells
 abbrev pub all_of : {A : Type 0} → (Text → Option A) → List Text → Option (List A)
 all_of read [] = Some []
 all_of read (w ∷ ws) = with_two (λ x xs. x ∷ xs) (read w) (all_of read ws)
@@ -65,18 +65,18 @@ u64_of word = number_in 0 18446744073709551615 word
 abbrev pub span_between : ℕ → ℕ → Option Span
 span_between first last = if nat_lt first last then Some (record { start = first; end = last }) else None
 
--- from both numbers
+-- a span from both numbers
 abbrev pub span_with : Option ℕ → Option ℕ → Option Span
 span_with (Some first) (Some last) = span_between first last
 span_with (Some first) None = None
 span_with None last = None
 
--- of two words
+-- a span of two words
 abbrev pub span_parts : List Text → Option Span
 span_parts (first ∷ last ∷ []) = span_with (u32_of first) (u32_of last)
 span_parts _ = None
 
--- a span
+-- a span by its word
 abbrev pub span_of : Text → Option Span
 span_of word = span_parts (cut_at 45 word)
 
@@ -88,7 +88,7 @@ why_of word =
     else if bytes_eq word (codes "swap") then Some why.Swap
     else None
 
--- what is left behind
+-- what becomes of the pages that a move leaves
 abbrev pub left_of : Text → Option Left
 left_of word = if bytes_eq word (codes "now") then Some left.Now else option_map (λ g. left.Ghost g) (u64_of word)
 
@@ -118,7 +118,7 @@ cause_of word =
     else if bytes_eq word (codes "skipped") then Some cause.Skipped
     else None
 
--- a cause with one
+-- a cause with a number
 abbrev pub reserved_of : Text → Text → Option Cause
 reserved_of word stamp =
     if bytes_eq word (codes "reserved") then option_map (λ s. cause.Reserved (record { 0 = s })) (u64_of stamp) else None
@@ -127,7 +127,7 @@ reserved_of word stamp =
 abbrev pub row_with : BufId → Cause → CauseRow
 row_with b c = record { b = b; cause = c }
 
--- of its words
+-- a buffer with its cause by two or three words
 abbrev pub row_parts : List Text → List Text → Option CauseRow
 row_parts names (name ∷ word ∷ []) = with_two row_with (known names name) (cause_of word)
 row_parts names (name ∷ word ∷ stamp ∷ []) = with_two row_with (known names name) (reserved_of word stamp)
@@ -171,7 +171,7 @@ buffer_kind verb b =
     else if bytes_eq verb (codes "bind") then Some (kind.Bind b)
     else later_kind verb b
 
--- where the buffer is declared
+-- a verb and its buffer, where the buffer is declared
 abbrev pub on_buffer : Text → Option BufId → Option Kind
 on_buffer verb None = None
 on_buffer verb (Some b) = buffer_kind verb b
@@ -219,11 +219,11 @@ abbrev pub find_kind : Text → Text → Text → Option Kind
 find_kind word a b =
     if bytes_eq word (codes "find") then with_two (λ mem spans. kind.Result (shown.Find mem spans)) (mem_of a) (list_of span_of b) else None
 
--- a target
+-- an entry that takes a target
 abbrev pub take_of : List Text → Text → Text → Text → Option Kind
 take_of names a b c = with_three (λ x mem spans. kind.Take x mem spans) (known names a) (mem_of b) (list_of span_of c)
 
--- a place that is dry
+-- an entry that a place is dry
 abbrev pub dry_kind : List Text → Text → Text → Text → Option Kind
 dry_kind names a b c = with_three (λ x k w. kind.Dry x k w) (known names a) (u32_of b) (dry_of names c)
 
@@ -269,12 +269,12 @@ abbrev pub is_number : ℕ → Option ℕ → Bool
 is_number n None = false
 is_number n (Some m) = m == n
 
--- who and what
+-- an entry of an actor and a kind, where there are both
 abbrev pub entry_by : ActorWord → Option Kind → Option Entry
 entry_by (actor_word.Is who) k = option_map (λ k. record { who = who; kind = k }) k
 entry_by _ k = None
 
--- an entry's words
+-- the entry that an entry's words tell
 abbrev pub entry_of_words : Script → ℕ → List Text → Option Entry
 entry_of_words script n (number ∷ who ∷ words) =
     if is_number n (u64_of number)
@@ -282,6 +282,6 @@ entry_of_words script n (number ∷ who ∷ words) =
     else None
 entry_of_words script n _ = None
 
--- an entry's line
+-- the entry that an entry's line tells
 abbrev pub entry_of : Script → ℕ → Text → Option Entry
 entry_of script n text = if ends_line text then entry_of_words script n (cut_at 32 (without_end text)) else None

@@ -11,7 +11,7 @@ abbrev pub numbered_words : Text → List Text → Option ℕ
 numbered_words keyword (w ∷ number ∷ []) = if bytes_eq w keyword then u64_of number else None
 numbered_words keyword _ = None
 
--- in a line
+-- the number after the keyword in a line
 abbrev pub numbered_of : Text → Text → Option ℕ
 numbered_of keyword text = if ends_line text then numbered_words keyword (cut_at 32 (without_end text)) else None
 

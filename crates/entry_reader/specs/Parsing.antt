@@ -16,11 +16,11 @@ use Rattle.entry_reader.specs.declared.rule.Rule.TheVariants as rule
 
 -- ---- the first two lines
 
--- their text
+-- the text of the first two lines
 abbrev pub head_text : Script → ℕ → Text
 head_text script count = report_head script ++ line (codes "journal" ∷ decimal count ∷ [])
 
--- they tell a count, and so many bytes are theirs
+-- the first two lines tell this count of entries, and have len bytes
 pub record IsHead (script : Script) (text : Text) (count len : ℕ) : Type 0 where
   pub lines : HasHead script text count (lines_of (drop len text))
   pub bytes : text ≡ head_text script count ++ drop len text
@@ -30,7 +30,7 @@ pub record IsHead (script : Script) (text : Text) (count len : ℕ) : Type 0 whe
 abbrev pub HasNoHead : Script → Text → Type 0
 HasNoHead script text = (count : ℕ) (texts : List Text) → HasHead script text count texts → ⊥
 
--- what was found
+-- what reading the first two lines finds
 abbrev pub IsHeadRead : Script → Text → Option Head → Type 0
 IsHeadRead script text (Some h) = IsHead script text h.count h.len
 IsHeadRead script text None = HasNoHead script text
@@ -41,14 +41,14 @@ IsHeadRead script text None = HasNoHead script text
 abbrev pub text_to : Script → ℕ → List Entry → Text
 text_to script count entries = head_text script count ++ flat_map (entry_line script) (enumerate_from 1 entries)
 
--- the report counts so many entries, and its first are these; the text after them begins at a place
+-- the report counts this many entries, and its first are these; the text after them begins at rest
 pub record HasEntries (script : Script) (text : Text) (count rest : ℕ) (entries : List Entry) : Type 0 where
   pub right : List Text
   pub head : HasHead script text count (right ++ lines_of (drop rest text))
   pub texts : AreEntryTexts script 1 right entries
   pub bytes : text ≡ text_to script count entries ++ drop rest text
 
--- all that it counts
+-- these entries are all that the report counts
 pub record IsWhole (script : Script) (text : Text) (rest : ℕ) (entries : List Entry) : Type 0 where
   pub told : HasEntries script text (length entries) rest entries
 
@@ -77,7 +77,7 @@ abbrev pub IsReadTo : Script → Text → ℕ → List Entry → Option ReportBa
 IsReadTo script text rest entries None = IsWhole script text rest entries
 IsReadTo script text rest entries (Some bad) = IsBadFrom script text rest entries bad.entry bad.rule
 
--- what was found
+-- what reading a report finds
 pub record IsParsed (script : Script) (text : Text) (p : Parsed) : Type 0 where
   pub within : p.rest ≤ length text
   pub read : IsReadTo script text p.rest p.entries p.bad

@@ -70,7 +70,7 @@ fn entry_by_words(
     }
 }
 
-/// An actor of the script by its word.
+/// Returns the actor of the script that `word` names.
 fn actor_of_script(script: &Script, word: &[u8]) -> ActorWord
     requires { length script.now.threads ≤ 16 }
     ensures { result ≡ actor_of (length script.now.threads) script.now.sizes.engines word.now }
@@ -97,7 +97,7 @@ fn entry_by_line(
     entry_by_words(alloc, script, names, n, words.items())
 }
 
-/// The names that the script declares.
+/// Returns the names that the script declares.
 pub fn names_of_script(alloc: Global, script: &Script) -> Result<Names, NoMemory>
     requires { is_script script.now ≡ true }
     ensures { IfOk result (λ names. names ≡ names_of script.now.buffers) }

@@ -313,7 +313,7 @@ fn kind_of_four_words(
     }
 }
 
-/// The kind of an entry by its words.
+/// Returns the kind of an entry with the words `words`, or `None` if they are the words of none.
 pub(crate) fn kind(alloc: Global, names: &Names, words: &[Bytes]) -> Result<Option<Kind>, NoMemory>
     requires { length names.now ≤ 256 }
     ensures { IfOk result (λ kind. kind ≡ kind_of names.now words.now) }

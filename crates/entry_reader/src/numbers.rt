@@ -8,7 +8,7 @@ use script_words::words::is_plain_number;
 
 const ABOVE: u128 = 1 << 64;
 
-/// The number of a word of digits; numbers above 64 bits count as 2^64.
+/// Returns the number that `word`, a word of digits, tells. Numbers above 64 bits count as 2^64.
 fn value_of(word: &[u8]) -> u128
     ensures { result ≡ min (read_on 0 word.now) 18446744073709551616 }
 {
@@ -19,7 +19,7 @@ fn value_of(word: &[u8]) -> u128
     n
 }
 
-/// A number of 64 bits in plain decimals.
+/// Returns the number of 64 bits that `word` tells in plain decimals, or `None` if it tells none.
 pub fn number(word: &[u8]) -> Option<u64>
     ensures { result ≡ u64_of word.now }
 {
@@ -31,7 +31,7 @@ pub fn number(word: &[u8]) -> Option<u64>
     }
 }
 
-/// A number of 32 bits in plain decimals.
+/// Returns the number of 32 bits that `word` tells in plain decimals, or `None` if it tells none.
 pub(crate) fn small_number(word: &[u8]) -> Option<u32>
     ensures { result ≡ u32_of word.now }
 {

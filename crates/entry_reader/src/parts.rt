@@ -69,7 +69,7 @@ pub(crate) fn deny(word: &[u8]) -> Option<Deny>
     }
 }
 
-/// An engine after its letter.
+/// Reads the number of an engine after its letter, or returns `None` if `word` isn't one.
 pub(crate) fn engine(word: &[u8]) -> Option<u32>
     ensures { result ≡ engine_of word.now }
 {
@@ -79,7 +79,7 @@ pub(crate) fn engine(word: &[u8]) -> Option<u32>
     }
 }
 
-/// The bytes of a probe's piece, which has one at least.
+/// Reads the bytes of a probe's piece, which has one at least.
 pub(crate) fn piece(alloc: Global, word: &[u8]) -> Result<Option<Bytes>, NoMemory>
     ensures { IfOk result (λ piece. piece ≡ piece_of word.now) }
 {
@@ -133,7 +133,7 @@ fn spans_of_words(alloc: Global, words: &[Bytes]) -> Result<Option<Spans>, NoMem
     Ok(Some(spans))
 }
 
-/// Spans with a comma between each two, or a dash.
+/// Reads spans with a comma between each two, or a dash for none.
 pub(crate) fn spans(alloc: Global, word: &[u8]) -> Result<Option<Spans>, NoMemory>
     ensures { IfOk result (λ spans. spans ≡ list_of span_of word.now) }
 {
@@ -211,7 +211,7 @@ fn rows_of_words(alloc: Global, names: &Names, words: &[Bytes]) -> Result<Option
     Ok(Some(rows))
 }
 
-/// Buffers with their causes, with a comma between each two, or a dash.
+/// Reads buffers with their causes, with a comma between each two, or a dash for none.
 fn rows(alloc: Global, names: &Names, word: &[u8]) -> Result<Option<Causes>, NoMemory>
     requires { length names.now ≤ 256 }
     ensures { IfOk result (λ rows. rows ≡ list_of (row_of names.now) word.now) }
@@ -223,7 +223,7 @@ fn rows(alloc: Global, names: &Names, word: &[u8]) -> Result<Option<Causes>, NoM
     rows_of_words(alloc, names, words.items())
 }
 
-/// Why a place is dry.
+/// Reads why a place is dry.
 pub(crate) fn dry_why(alloc: Global, names: &Names, word: &[u8]) -> Result<Option<DryWhy>, NoMemory>
     requires { length names.now ≤ 256 }
     ensures { IfOk result (λ why. why ≡ dry_of names.now word.now) }

@@ -19,8 +19,8 @@ use ttm_base::{ItemList, NoMemory};
 
 pub type Entries = ItemList<Entry>;
 
-/// Tells where a report is bad: the first entry that isn't read, counted from 1, and the rule that it breaks, `Rule::Head` or
-/// `Rule::Line`. Entry 0 stands for the first two lines.
+/// Where a report is bad: the first entry that isn't read, counted from 1, and the rule that it breaks, `Rule::Head` or `Rule::Line`. Entry
+/// 0 stands for the first two lines.
 #[derive(Clone, Copy, Debug, PartialEq, Eq)]
 pub struct ReportBad {
     pub entry: u64,
@@ -30,7 +30,7 @@ pub struct ReportBad {
 /// What the first two lines tell.
 #[derive(Clone, Copy)]
 pub struct Head {
-    /// How many entries there are to be.
+    /// The number of entries that there are to be.
     pub count: u64,
     /// The bytes of both lines.
     pub len: usize,
@@ -40,7 +40,7 @@ pub struct Head {
 pub struct Parsed {
     /// The entries up to the first line that isn't one; none where the first two lines are bad.
     pub entries: Entries,
-    /// The place of the first byte after them, at most the length of the text; 0 where the first two lines are bad.
+    /// The position of the first byte after them, at most the length of the text; 0 where the first two lines are bad.
     pub rest: usize,
     /// Why reading ended before all entries that the report counts.
     pub bad: Option<ReportBad>,
@@ -57,7 +57,7 @@ impl Drop for Parsed {
     }
 }
 
-/// The first line, with its line feed where it has one.
+/// Returns the first line of `text`, with its line feed where it has one.
 #[tactic(auto, using(crate::proofs::HeadTold::line_len_within))]
 fn first_line_of(text: &[u8]) -> &[u8]
     ensures { result.now ≡ take (line_len text.now) text.now }
@@ -66,7 +66,7 @@ fn first_line_of(text: &[u8]) -> &[u8]
     line
 }
 
-/// The bytes from a place on.
+/// Returns the bytes of `text` from `place` on.
 fn behind(text: &[u8], place: usize) -> &[u8]
     requires { place ≤ length text.now }
     ensures { result.now ≡ drop place text.now }
@@ -171,9 +171,9 @@ fn read_entries(
     })
 }
 
-/// Reads the report `text` of `script`: its entries up to the first line that isn't one, the place of the first byte after them, and
-/// why there are no more. Where the first two lines aren't those of a report, no entry is read and the place is 0. The report may
-/// count more entries than it has lines, up to 2^64 - 1.
+/// Reads the report `text` of `script`: its entries up to the first line that isn't one, the position of the first byte after them, and why
+/// there are no more. Where the first two lines aren't those of a report, no entry is read and the position is 0. The report may count more
+/// entries than it has lines, up to 2^64 - 1.
 pub fn read_report(alloc: Global, script: &Script, text: &[u8]) -> Result<Parsed, NoMemory>
     requires { is_script script.now ≡ true }
     ensures { IfOk result (λ parsed. IsParsed script.now text.now parsed) }

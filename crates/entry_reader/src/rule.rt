@@ -3,7 +3,7 @@
 ghost use Rattle.std.specs.Prelude.{◌≡◌};
 ghost use Rattle.entry_reader.specs.Rules as words;
 
-/// Names the rule that a report breaks at an entry. Of an entry that breaks several, the one that stands first here is told.
+/// The rule that a report breaks at an entry. Of an entry that breaks several, the one that stands first here is told.
 #[derive(Clone, Copy, Debug, PartialEq, Eq)]
 pub enum Rule {
     /// The first two lines are `report V`, with the script's version, and `journal M`, with a number of 64 bits; the input has no
@@ -22,7 +22,7 @@ pub enum Rule {
 }
 
 impl Rule {
-    /// Answers the number that is printed for the rule, from 1 to 6.
+    /// Returns the number that is printed for the rule, from 1 to 6.
     pub fn number(self) -> u32
         ensures { result ≡ words.number_of self }
     {

@@ -1,4 +1,4 @@
--- Who keeps pages of a place, as the table of buffers and the ghosts tell it.
+-- Which buffers and ghosts keep pages of a place, as the table of buffers and the ghosts tell it.
 use Rattle.std.specs.Prelude.{Bool, List, [], Option, Some, None, ◌&&◌, ◌||◌, if◌then◌else◌, is_some, find}
 use Rattle.ttm_base.specs.declared.BufId.{BufId}
 use Rattle.ttm_base.specs.declared.Mem.{Mem}
@@ -15,15 +15,15 @@ use Rattle.journal_model.specs.rules.State.{target_of}
 use Rattle.journal_model.specs.rules.Dry.{cause_of}
 use Rattle.room_representation.specs.declared.parts.Ghost.{Ghost}
 
--- a lent buffer, without its fences
+-- the buffer that the table lends, without its fences
 abbrev pub buffer_of : Bo → Buffer
 buffer_of bo = record { mem = bo.mem; spans = bo.spans; table = bo.table; targets = bo.targets; fences = [] }
 
--- it is live, and has its resource or a target in the place's manager
+-- the buffer is live, and has its resource or a target in the place's manager
 abbrev pub is_kept_in : Place → Bo → Bool
 is_kept_in place bo = bo.alive && (same_mem bo.mem place.mem || is_some (target_of place.mem bo.targets))
 
--- then why it can't be evicted
+-- the buffer with the cause why it can't be evicted, if it is kept in the place's manager
 abbrev pub row_in : Script → Place → BufId → Bo → Option CauseRow
 row_in script place b bo = if is_kept_in place bo then Some (record { b = b; cause = cause_of script place (reservation_of bo) (buffer_of bo) }) else None
 
@@ -33,10 +33,10 @@ ghost_spans System g = []
 ghost_spans Tt g = g.tt
 ghost_spans Vram g = g.vram
 
--- a ghost holds pages of a memory type
+-- the ghost holds pages of `within` in the memory type
 abbrev pub holds_in : Mem → Span → Ghost → Bool
 holds_in mem within g = intersects (ghost_spans mem g) within
 
--- the first that does
+-- the first ghost that holds pages of `within` in the memory type
 abbrev pub ghost_in : Mem → Span → List Ghost → Option Ghost
 ghost_in mem within gs = find (holds_in mem within) gs

@@ -12,7 +12,7 @@ use state_words::{intersects, reach_of, same_mem, target_of};
 use std::alloc::Global;
 use ttm_base::{BufId, Mem, NoMemory, Place, Span};
 
-/// The spans of a ghost in a memory type.
+/// Returns the spans of a ghost in the memory type `mem`.
 fn ghost_spans(mem: Mem, left: &Ghost) -> &[Span]
     ensures { result.now ≡ rows_of.ghost_spans mem left.now }
 {
@@ -23,14 +23,14 @@ fn ghost_spans(mem: Mem, left: &Ghost) -> &[Span]
     }
 }
 
-/// A ghost holds pages of a memory type.
+/// Returns whether a ghost holds pages of `within` in the memory type `mem`.
 fn holds_in(mem: Mem, within: Span, left: &Ghost) -> bool
     ensures { result ≡ rows_of.holds_in mem within left.now }
 {
     intersects(ghost_spans(mem, left), within)
 }
 
-/// The number of the first ghost that holds such pages.
+/// Returns the number of the first ghost that holds pages of `within` in the memory type `mem`, or None where none does.
 fn number_in(ghosts: &[Ghost], mem: Mem, within: Span) -> Option<u64>
     ensures { result ≡ option_map (λ g. g.num) (rows_of.ghost_in mem within ghosts.now) }
 {
@@ -40,14 +40,14 @@ fn number_in(ghosts: &[Ghost], mem: Mem, within: Span) -> Option<u64>
     }
 }
 
-/// The number of the first ghost that holds a page that the place reaches.
+/// Returns the number of the first ghost that holds a page that `place` reaches, or None where none does.
 pub(crate) fn ghost_in(rooms: &Rooms, place: Place) -> Option<u64>
     ensures { result ≡ option_map (λ g. g.num) (words.ghost_in rooms.now.script (state_behind rooms.now) place) }
 {
     number_in(rooms.ghosts(), place.mem, reach_of(rooms.script(), place))
 }
 
-/// Why a buffer can't be evicted: the first cause that holds.
+/// Returns why the buffer `bo` can't be evicted: the first cause that holds.
 fn cause_of(script: &Script, place: Place, bo: &Bo) -> Cause
     ensures { result ≡ words.cause_of script.now place (reservation_of bo.now) (rows_of.buffer_of bo.now) }
 {
@@ -66,14 +66,14 @@ fn cause_of(script: &Script, place: Place, bo: &Bo) -> Cause
     }
 }
 
-/// A live buffer has its resource or a target in the place's manager.
+/// Returns whether the buffer `bo` is live and has its resource or a target in the manager of `place`.
 fn is_kept_in(place: Place, bo: &Bo) -> bool
     ensures { result ≡ rows_of.is_kept_in place bo.now }
 {
     bo.alive && (same_mem(bo.mem, place.mem) || target_of(place.mem, &bo.targets).is_some())
 }
 
-/// The cause of such a buffer.
+/// Returns buffer `b` with its cause, or None where it has neither its resource nor a target in the manager of `place`.
 fn row_in(script: &Script, place: Place, b: BufId, bo: &Bo) -> Option<CauseRow>
     ensures { result ≡ rows_of.row_in script.now place b bo.now }
 {
@@ -87,7 +87,7 @@ fn row_in(script: &Script, place: Place, b: BufId, bo: &Bo) -> Option<CauseRow>
     }
 }
 
-/// Each live buffer with its resource or a target in the place's manager, in declared order, with the cause.
+/// Returns each live buffer with its resource or a target in the manager of `place`, in declared order, with the cause.
 ///
 /// # Errors
 ///

@@ -19,7 +19,7 @@ use room_state::room_turns::{
 use std::alloc::Global;
 use ttm_base::{Actor, BufId, Mem, Need, NoMemory};
 
-/// For what a victim of a place is caught.
+/// Returns for what a victim of a place in the memory type `mem` is caught.
 fn why_of(mem: Mem) -> Why
     ensures { result ≡ words.why_of mem }
 {
@@ -30,9 +30,9 @@ fn why_of(mem: Mem) -> Why
     }
 }
 
-/// Finds the buffer that is evicted for a thread's search: none where the forced place at work is shorter than the buffer that looks for pages, or
-/// where no buffer in it may be evicted. Takes time by the lists of the place's memory type up to the first that may be, by the spans of their buffers, and
-/// by the buffers that were skipped.
+/// Returns the buffer that is evicted for the search of `thread`, or None where the forced place at work is shorter than the buffer that looks for
+/// pages, or where no buffer in it may be evicted. Takes time by the lists of the place's memory type up to the first that may be, by the spans of
+/// their buffers, and by the buffers that were skipped.
 pub fn next_victim(rooms: &Rooms, thread: u32) -> Option<BufId>
     requires { stage_of (task_of rooms.now.script (state_behind rooms.now) thread) ≡ stage.Search }
     ensures { result ≡ victim_of rooms.now.script (state_behind rooms.now) thread }
@@ -45,7 +45,7 @@ pub fn next_victim(rooms: &Rooms, thread: u32) -> Option<BufId>
     victim(rooms, rooms.course(thread).skips.items(), place)
 }
 
-/// Catches the buffer that is evicted for a thread's search (`next_victim`); false where there is none.
+/// Catches the buffer that is evicted for the search of `thread` (`next_victim`), and returns whether there is one.
 ///
 /// # Errors
 ///
@@ -68,7 +68,7 @@ pub fn catch(rooms: &mut Rooms, thread: u32) -> Result<bool, NoMemory>
     Ok(true)
 }
 
-/// Makes the entry that the forced place at work of a search is dry.
+/// Makes the entry that notes the forced place at work of a search as dry, for the reason `why`.
 fn make_dry(
     rooms: &mut Rooms,
     thread: u32,
@@ -88,8 +88,8 @@ fn make_dry(
     make(rooms, Actor::Thread(thread), kind)
 }
 
-/// Tells that the forced place at work of a thread's search is dry: it is shorter than the buffer, or each buffer in its memory type has a cause
-/// for which it isn't evicted. Where a ghost holds pages of it, the thread waits for the first such ghost.
+/// Notes that the forced place at work of the search of `thread` is dry: it is shorter than the buffer, or each buffer in its memory type has a
+/// cause for which it isn't evicted. Where a ghost holds pages of it, the thread waits for the first such ghost instead.
 ///
 /// # Errors
 ///
@@ -114,7 +114,7 @@ pub fn dry(alloc: Global, rooms: &mut Rooms, thread: u32) -> Result<Step, NoMemo
     make_dry(rooms, thread, buffer_search, DryWhy::Of(rows))
 }
 
-/// Passes over a victim that found no room, when it has neither frame nor target left: its command tries it no more.
+/// Skips a victim for which there was no room, once it has neither a frame nor a target left: its command tries it no more.
 ///
 /// # Errors
 ///
@@ -131,7 +131,7 @@ pub fn skip(rooms: &mut Rooms, thread: u32) -> Result<Step, NoMemory>
     }
 }
 
-/// Lets a victim go with which nothing is left to do.
+/// Releases a victim with which nothing is left to do.
 ///
 /// # Errors
 ///

@@ -12,35 +12,35 @@ use room_state::room_turns::Rooms;
 use state_words::{declared_pages, has_buffer, intersects, length_of, reach_of, same_mem};
 use ttm_base::{BufId, Mem, Place, Span};
 
-/// The place has as many pages as the buffer.
+/// Returns whether `place` has at least as many pages as buffer `b`.
 pub(crate) fn is_long_enough(script: &Script, b: BufId, place: Place) -> bool
     ensures { result ≡ words.is_long_enough script.now b place }
 {
     declared_pages(script, b) <= length_of(reach_of(script, place))
 }
 
-/// A live buffer stands in pages of a memory type.
+/// Returns whether the buffer `bo` is live and stands in pages of `within` in the memory type `mem`.
 fn stands_in(bo: &Bo, mem: Mem, within: Span) -> bool
     ensures { result ≡ walks.stands_in bo.now mem within }
 {
     bo.alive && same_mem(bo.mem, mem) && intersects(bo.spans.items(), within)
 }
 
-/// A buffer is neither pinned nor held.
+/// Returns whether the buffer `bo` is neither pinned nor reserved.
 fn is_loose(bo: &Bo) -> bool
     ensures { result ≡ words.is_loose (reservation_of bo.now) }
 {
     bo.pins == 0 && bo.resv.holder().is_none()
 }
 
-/// It stands there, is loose and wasn't skipped.
+/// Returns whether a buffer stands in the place, is neither pinned nor reserved, and wasn't skipped.
 fn passes(stands: bool, loose: bool, skipped: bool) -> bool
     ensures { result ≡ ((stands && loose) && not skipped) }
 {
     stands && loose && !skipped
 }
 
-/// A buffer stands in the place, is neither pinned nor held, and wasn't skipped.
+/// Returns whether buffer `b` stands in `place`, is neither pinned nor reserved, and isn't in `skips`.
 fn is_evictable(rooms: &Rooms, skips: &[BufId], place: Place, b: BufId) -> bool
     ensures { result ≡ words.is_evictable rooms.now.script (state_behind rooms.now) skips.now place b }
 {
@@ -56,7 +56,7 @@ fn is_evictable(rooms: &Rooms, skips: &[BufId], place: Place, b: BufId) -> bool
     passes(stands, loose, skipped)
 }
 
-/// The first evictable buffer of a list, walked from buffer to buffer.
+/// Returns the first evictable buffer of the list of priority `prio`, which is walked from buffer to buffer.
 fn first_on(rooms: &Rooms, skips: &[BufId], place: Place, prio: u32) -> Option<BufId>
     requires { prio < 4 }
     ensures { result ≡ find (words.is_evictable rooms.now.script (state_behind rooms.now) skips.now place) (list_at (state_behind rooms.now).lists (list_number place.mem prio)) }
@@ -73,7 +73,7 @@ fn first_on(rooms: &Rooms, skips: &[BufId], place: Place, prio: u32) -> Option<B
     None
 }
 
-/// The buffer that is evicted for a place: the first evictable one, priority 0 first.
+/// Returns the buffer that is evicted for `place`: the first evictable one, in order of priority from 0 on.
 pub(crate) fn victim(rooms: &Rooms, skips: &[BufId], place: Place) -> Option<BufId>
     ensures { result ≡ words.victim rooms.now.script (state_behind rooms.now) skips.now place }
 {

@@ -12,11 +12,11 @@ use Rattle.fence_core.specs.Timelines.{is_signalled}
 abbrev pub nothing_kept : Latest
 nothing_kept = record { kernel = 0; write = 0; read = 0 }
 
--- what a set keeps of a context
+-- the latest jobs that a set keeps of a context
 abbrev pub kept_of : List Latest → ℕ → Latest
 kept_of set ctx = slice_index_or set ctx nothing_kept
 
--- the part of that usage and the lower ones
+-- the jobs of that usage and the lower ones
 abbrev pub up_to : Usage → Latest → Latest
 up_to Kernel kept = record { kernel = kept.kernel; write = 0; read = 0 }
 up_to Write kept = record { kernel = kept.kernel; write = kept.write; read = 0 }
@@ -38,11 +38,11 @@ latest_num kept = max kept.kernel (max kept.write kept.read)
 
 -- ---- sets
 
--- with one job more
+-- the set with one more job
 abbrev pub added : List Latest → JobId → Usage → List Latest
 added set job how = slice_set set job.ctx (later (kept_of set job.ctx) (only how job.num))
 
--- with the jobs of another set that it keeps with that usage or a lower one
+-- the set with the jobs that another set keeps with that usage or a lower one
 abbrev pub all_added : Usage → List Latest → List Latest → List Latest
 all_added how [] others = []
 all_added how (kept ∷ set) [] = []
@@ -52,10 +52,10 @@ all_added how (kept ∷ set) (other ∷ others) = later kept (up_to how other) �
 abbrev pub latest_job : Usage → List Latest → ℕ → JobId
 latest_job how set ctx = record { ctx = ctx; num = latest_num (up_to how (kept_of set ctx)) }
 
--- such a job isn't signalled; then the latest one isn't
+-- whether such a job isn't signalled, which is so exactly where the latest one isn't
 abbrev pub is_open : Usage → List Progress → List Latest → ℕ → Bool
 is_open how line set ctx = not (is_signalled line (latest_job how set ctx))
 
--- the job to wait for: the latest one of the first context that has one which isn't signalled
+-- the job to wait for: the latest one of the first context that has a job which isn't signalled
 abbrev pub needed : Usage → List Progress → List Latest → Option JobId
 needed how line set = option_map (latest_job how set) (find (is_open how line set) (range_with_len 0 (length set)))

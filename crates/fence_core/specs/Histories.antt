@@ -9,21 +9,21 @@ use Rattle.fence_core.specs.declared.fence_set.Latest.{Latest}
 use Rattle.fence_core.specs.Timelines.{is_signalled}
 use Rattle.fence_core.specs.Fences.{nothing_kept, added}
 
--- a set after each of these was added
+-- a set after each of these fences was added
 abbrev pub after_adds : List Latest → List Fence → List Latest
 after_adds set [] = set
 after_adds set (f ∷ fences) = after_adds (added set f.job f.usage) fences
 
--- what a set that was empty keeps of these
+-- what a set that was empty keeps of these fences
 abbrev pub set_of : ℕ → List Fence → List Latest
 set_of contexts fences = after_adds (replicate contexts nothing_kept) fences
 
--- each of these has a context of those that there are
+-- each of these fences has one of the contexts that there are
 abbrev pub AreKnown : ℕ → List Fence → Type 0
 AreKnown contexts [] = Unit {0}
 AreKnown contexts (f ∷ fences) = (f.job.ctx < contexts) × AreKnown contexts fences
 
--- the second usage is the first or a lower one
+-- whether the second usage is the first or a lower one
 abbrev pub covers : Usage → Usage → Bool
 covers Kernel Kernel = true
 covers Kernel Write = false
@@ -33,11 +33,11 @@ covers Write Write = true
 covers Write Read = false
 covers Read how = true
 
--- the fence has that usage or a lower one
+-- whether the fence has that usage or a lower one
 abbrev pub is_covered : Usage → Fence → Bool
 is_covered how f = covers how f.usage
 
--- and its job isn't signalled
+-- whether the fence has that usage or a lower one, and its job isn't signalled
 abbrev pub is_waited_for : Usage → List Progress → Fence → Bool
 is_waited_for how line f = is_covered how f && not (is_signalled line f.job)
 

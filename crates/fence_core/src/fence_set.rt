@@ -11,7 +11,7 @@ use std::alloc::Global;
 use std::marker::Model;
 use ttm_base::{JobId, NoMemory, Usage};
 
-/// The latest job of each usage in one context, by its number; 0 where there is none.
+/// The number of the latest job of each usage in one context, or 0 where there is none.
 #[derive(Clone, Copy, PartialEq, Eq)]
 pub struct Latest {
     pub kernel: u64,
@@ -25,7 +25,7 @@ const NOTHING: Latest = Latest {
     read: 0,
 };
 
-// One job, with its usage.
+// Returns the set of the one job `num` with its usage.
 fn only(usage: Usage, num: u64) -> Latest
     ensures { result ≡ words.only usage num }
 {
@@ -45,7 +45,7 @@ fn only(usage: Usage, num: u64) -> Latest
     }
 }
 
-// The part of a usage and the lower ones.
+// Returns the jobs of `usage` and the lower usages.
 fn up_to(usage: Usage, kept: Latest) -> Latest
     ensures { result ≡ words.up_to usage kept }
 {
@@ -59,7 +59,7 @@ fn up_to(usage: Usage, kept: Latest) -> Latest
     }
 }
 
-// The later job of each usage.
+// Returns the later job of each usage.
 fn later(one: Latest, other: Latest) -> Latest
     ensures { result ≡ words.later one other }
 {
@@ -70,14 +70,14 @@ fn later(one: Latest, other: Latest) -> Latest
     }
 }
 
-// The latest job of any usage.
+// Returns the latest job of any usage.
 fn latest_num(kept: Latest) -> u64
     ensures { result ≡ words.latest_num kept }
 {
     kept.kernel.max(kept.write.max(kept.read))
 }
 
-// Adds to each context the jobs of another set's.
+// Adds to each context the jobs that the other set has there with `usage` or a lower one.
 fn add_each(set: &mut [Latest], others: &[Latest], usage: Usage)
     requires { length set.old ≡ length others.now }
     ensures { set.new ≡ all_added usage set.old others.now }
@@ -87,7 +87,7 @@ fn add_each(set: &mut [Latest], others: &[Latest], usage: Usage)
     }
 }
 
-// The latest job of a context, of those of a usage and the lower ones.
+// Returns the latest job of the context `ctx` among those of `usage` and the lower usages.
 fn latest_job(kept: &[Latest], usage: Usage, ctx: u32) -> JobId
     requires { ctx < length kept.now }
     ensures { result ≡ words.latest_job usage kept.now ctx }
@@ -98,7 +98,8 @@ fn latest_job(kept: &[Latest], usage: Usage, ctx: u32) -> JobId
     }
 }
 
-// Whether there is one that isn't done: then the latest one isn't.
+// Returns whether some job of `usage` or a lower usage in the context `ctx` isn't done, which is so exactly where the latest
+// one isn't.
 fn is_open(kept: &[Latest], usage: Usage, line: &Timeline, ctx: u32) -> bool
     requires kept { ctx < length kept.now }
     requires line { ctx < length line.now }
@@ -107,8 +108,8 @@ fn is_open(kept: &[Latest], usage: Usage, line: &Timeline, ctx: u32) -> bool
     !line.signalled(latest_job(kept, usage, ctx))
 }
 
-/// Jobs that use a buffer, by usage. It keeps the latest job of each context and usage: where that one is done, so are the
-/// others. Only `new` takes memory.
+/// The jobs that use a buffer, by usage. The set keeps the latest job of each context and usage: where that one is done, so
+/// are the others. Only `new` takes memory.
 #[derive(Drop)]
 pub struct FenceSet {
     kept: Vec<Latest>,
@@ -126,7 +127,7 @@ impl Model for FenceSet {
 }
 
 impl FenceSet {
-    /// A set of no jobs, for so many contexts.
+    /// Returns a set of no jobs, for `contexts` contexts.
     pub fn new(alloc: Global, contexts: u32) -> Result<FenceSet, NoMemory>
         ensures { IfOk result (λ set. set ≡ replicate contexts nothing_kept) }
     {
@@ -134,14 +135,14 @@ impl FenceSet {
         Ok(FenceSet { kept })
     }
 
-    /// How many contexts there are.
+    /// Returns the number of contexts.
     pub fn contexts(&self) -> u32
         ensures { result ≡ length self.now }
     {
         self.kept.len() as u32
     }
 
-    /// Adds one job.
+    /// Adds one job with its usage.
     pub fn add(&mut self, job: JobId, usage: Usage)
         requires known { job.ctx < length self.old }
         requires num { 0 < job.num }
@@ -151,7 +152,7 @@ impl FenceSet {
         self.kept[ctx] = later(self.kept[ctx], only(usage, job.num));
     }
 
-    /// Adds the jobs that another set keeps with that usage or a lower one, each with its own usage.
+    /// Adds the jobs that another set keeps with `usage` or a lower one, each with its own usage.
     pub fn add_all(&mut self, other: &FenceSet, usage: Usage)
         requires { length self.old ≡ length other.now }
         ensures { self.new ≡ all_added usage self.old other.now }
@@ -159,8 +160,8 @@ impl FenceSet {
         add_each(&mut self.kept, &other.kept, usage);
     }
 
-    /// The job to wait for, among those of that usage and the lower ones that aren't done: the latest one of the first
-    /// context that has one.
+    /// Returns a job to wait for, among those of `usage` and the lower usages that aren't done: the latest one of the first
+    /// context that has one. None means that all of them are done.
     pub fn need(&self, usage: Usage, line: &Timeline) -> Option<JobId>
         requires { length self.now ≡ length line.now }
         ensures { result ≡ needed usage line.now self.now }
@@ -173,8 +174,9 @@ impl FenceSet {
         None
     }
 
-    /// The set tells of every job that was added to it since it was empty: it needs none exactly where each one of that
-    /// usage or a lower one is done, else the one that is named among those. It does nothing: its contract is the law.
+    /// Tells that the set speaks for every job that was added to it since it was empty: it needs none exactly where each job
+    /// of `usage` or a lower one is done, else it needs the one that is named among those. The call does nothing: its
+    /// contract is the law.
     pub fn need_of_all(&self, usage: Usage, line: &Timeline)
         ensures none { (fences : List Fence) → self.now ≡ set_of (length self.now) fences → AreKnown (length self.now) fences → (needed usage line.now self.now ≡ None) ↔ (waiting usage line.now fences ≡ []) }
         ensures job { (fences : List Fence) → self.now ≡ set_of (length self.now) fences → AreKnown (length self.now) fences → needed usage line.now self.now ≡ named_job (waiting usage line.now fences) }
@@ -183,8 +185,9 @@ impl FenceSet {
         let _contexts = line.contexts();
     }
 
-    /// The set of some jobs is that of one more after `add`, of those of another set too after `add_all`, and of none after
-    /// `clear`. It does nothing: its contract is the law.
+    /// Tells how the set follows the jobs that were added: the set of some jobs becomes that of one more after `add`, that
+    /// of those of another set too after `add_all`, and that of none after `clear`. The call does nothing: its contract is
+    /// the law.
     pub fn kept_of_all(&self)
         ensures one { (fences : List Fence) (f : Fence) → added (set_of (length self.now) fences) f.job f.usage ≡ set_of (length self.now) (fences ++ f ∷ []) }
         ensures all { (usage : How) (fences others : List Fence) → AreKnown (length self.now) others → all_added usage (set_of (length self.now) fences) (set_of (length self.now) others) ≡ set_of (length self.now) (fences ++ filter (is_covered usage) others) }

@@ -1,4 +1,4 @@
-//! Jobs by usage: how far the jobs of each context are (dma_fence), and the jobs that use a buffer (dma_resv).
+//! Fences by usage: how far the jobs of each context are (dma_fence), and the jobs that use a buffer (dma_resv).
 #![tactic(auto)]
 
 mod fence_set;

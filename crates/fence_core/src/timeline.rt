@@ -5,14 +5,14 @@ use std::alloc::Global;
 use std::marker::Model;
 use ttm_base::{JobId, NoMemory};
 
-/// How many jobs of a context were emitted, and how many of them are done: those with the least numbers.
+/// The number of jobs that a context emitted, and how many of them are done, which are those with the least numbers.
 #[derive(Clone, Copy, PartialEq, Eq)]
 pub struct Progress {
     pub emitted: u64,
     pub done: u64,
 }
 
-/// The jobs of all contexts, by number from 1. The jobs of one context are done in order.
+/// The jobs of all contexts, each numbered from 1 in its context. The jobs of one context are done in order.
 #[derive(Drop)]
 pub struct Timeline {
     contexts: Vec<Progress>,
@@ -32,7 +32,7 @@ impl Model for Timeline {
 }
 
 impl Timeline {
-    /// So many contexts, from which no job was emitted.
+    /// Returns a timeline of `contexts` contexts, from which no job was emitted.
     pub fn new(alloc: Global, contexts: u32) -> Result<Timeline, NoMemory>
         ensures { IfOk result (λ line. line ≡ replicate contexts no_jobs) }
     {
@@ -44,14 +44,14 @@ impl Timeline {
         Ok(Timeline { contexts })
     }
 
-    /// How many contexts there are.
+    /// Returns the number of contexts.
     pub fn contexts(&self) -> u32
         ensures { result ≡ length self.now }
     {
         self.contexts.len() as u32
     }
 
-    /// Emits the next job of a context.
+    /// Emits the next job of the context `ctx`, and returns it.
     pub fn emit(&mut self, ctx: u32) -> JobId
         requires known { ctx < length self.old }
         requires few { (progress_of self.old ctx).emitted < 2 ^ 63 }
@@ -66,7 +66,7 @@ impl Timeline {
         }
     }
 
-    /// Marks the least job of a context that isn't done.
+    /// Marks as done the job with the least number of the context `ctx` that isn't done.
     pub fn done(&mut self, ctx: u32)
         requires known { ctx < length self.old }
         requires some { (progress_of self.old ctx).done < (progress_of self.old ctx).emitted }
@@ -75,7 +75,7 @@ impl Timeline {
         self.contexts[ctx as usize].done += 1;
     }
 
-    /// Whether a job is done.
+    /// Returns whether a job is done.
     pub fn signalled(&self, job: JobId) -> bool
         requires { job.ctx < length self.now }
         ensures { IsTrue result ↔ job.num ≤ (progress_of self.now job.ctx).done }
@@ -83,8 +83,8 @@ impl Timeline {
         job.num <= self.contexts[job.ctx as usize].done
     }
 
-    /// How far a context is: the number of its last job that is done, or 0 where none is. Jobs up to it are done, greater ones
-    /// aren't. Takes constant time.
+    /// Returns how far a context is: the number of its last job that is done, or 0 where none is. The jobs up to this number
+    /// are done, those with greater numbers aren't. Takes constant time.
     pub fn reached(&self, ctx: u32) -> u64
         requires { ctx < length self.now }
         ensures done { result ≡ (progress_of self.now ctx).done }
@@ -94,7 +94,7 @@ impl Timeline {
         progress.done
     }
 
-    /// The number that `emit` would give. No job with this number or a greater one is done.
+    /// Returns the number that `emit` would give to a job. No job with this number or a greater one is done.
     pub fn next(&self, ctx: u32) -> u64
         requires { ctx < length self.now }
         ensures next { result ≡ (progress_of self.now ctx).emitted + 1 }

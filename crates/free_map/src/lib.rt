@@ -1,4 +1,4 @@
-//! The numbers below a length that are free, and the lowest of them: the frames of a pool of pages (ttm_pool), or swap slots.
+//! The numbers below a length that are free, and the lowest of them: the frames of a page pool (ttm_pool), or swap slots.
 //! Only `new` takes memory.
 #![tactic(auto)]
 
@@ -10,12 +10,12 @@ use std::alloc::Global;
 use std::marker::Model;
 use ttm_base::NoMemory;
 
-/// For each number below a length whether it is held, seen as a list.
+/// A map that knows of each number below a length whether it is held, seen as a list.
 #[derive(Drop)]
 pub struct FreeMap {
     /// The numbers that are free.
     numbers: BitSet,
-    /// How many are free.
+    /// The number of them that are free.
     free: u32,
 }
 
@@ -30,7 +30,7 @@ impl Model for FreeMap {
 }
 
 impl FreeMap {
-    /// Makes `len` numbers, each of them free.
+    /// Returns a map of `len` numbers, each of them free.
     pub fn new(alloc: Global, len: u32) -> Result<FreeMap, NoMemory>
         ensures { IfOk result (λ map. map ≡ replicate len false) }
     {
@@ -41,7 +41,7 @@ impl FreeMap {
         Ok(FreeMap { numbers, free: len })
     }
 
-    /// Takes the lowest free number, which is then held.
+    /// Takes the lowest free number, which is then held. None means that no number is free, and changes nothing.
     pub fn take(&mut self) -> Option<u32>
         ensures lowest { result ≡ position not self.old }
         ensures taken { IfSome result (λ number. self.new ≡ slice_set self.old number true) }
@@ -62,14 +62,14 @@ impl FreeMap {
         self.free += 1;
     }
 
-    /// Tells how many numbers are free.
+    /// Returns how many numbers are free.
     pub fn free(&self) -> u32
         ensures { result ≡ count_by not self.now }
     {
         self.free
     }
 
-    /// Finds the lowest free number, which `take` would give.
+    /// Finds the lowest free number, which `take` would return.
     pub fn first(&self) -> Option<u32>
         ensures { result ≡ position not self.now }
     {
@@ -78,7 +78,8 @@ impl FreeMap {
     }
 }
 
-/// The lowest number that isn't held is what a search among all numbers finds, by any test that tells of each whether it is held.
+/// Tells that the lowest number that isn't held is what a search among all numbers finds, by any test that tells of each
+/// number whether it is held. The call does nothing: its contract is the law.
 pub fn lowest_is_found()
     ensures { (held : List Bool) (is_held : ℕ → Bool) → ((n : ℕ) → n < length held → slice_get held n ≡ Some (is_held n))
         → position not held ≡ find (λ n. not (is_held n)) (count_from 1 (length held) 0) }

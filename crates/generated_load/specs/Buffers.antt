@@ -9,23 +9,23 @@ use Rattle.journal_model.specs.scripts.Words.{Text}
 use Rattle.journal_model.specs.rules.Commands.{whole, as_desired, as_fallback}
 use Rattle.generated_load.specs.Draws.{draw}
 
--- 64 pages of VRAM by buddies, 512 of TT, 192 frames, 256 slots, two user engines
+-- the sizes: 64 pages of VRAM in buddy blocks, 512 of TT, 192 frames, 256 slots, two user engines
 abbrev pub load_sizes : Sizes
 load_sizes = record { buddy = true; vram = 64; tt = 512; frames = 192; swap = 256; engines = 2 }
 
--- the letter b, and the number in digits
+-- the name of a buffer: the letter b, and the number in digits
 abbrev pub load_name : ℕ → Text
 load_name n = 98 ∷ (if nat_le 10 n then (48 + n / 10) ∷ (48 + n % 10) ∷ [] else (48 + n % 10) ∷ [])
 
--- the eight buffers of each thread have 4, 4, 8, 8, 8, 12, 12 and 16 pages
+-- the pages of a buffer: the eight buffers of each thread have 4, 4, 8, 8, 8, 12, 12 and 16
 abbrev pub load_pages : ℕ → ℕ
 load_pages n = if nat_lt n 6 then 4 else if nat_lt n 15 then 8 else if nat_lt n 21 then 12 else 16
 
--- wants VRAM, and under pressure VRAM or TT
+-- the placement of each buffer: in VRAM, and under pressure in VRAM or TT
 abbrev pub load_placement : Placement
 load_placement = record { list = as_desired (whole Vram) ∷ as_fallback (whole Vram) ∷ as_fallback (whole Tt) ∷ [] }
 
--- The buffer of a number. The threads' buffers stand in turn, and those of a thread are a group.
+-- Buffer number `n`. The threads' buffers stand in turn, and those of a thread are a group.
 abbrev pub load_buffer : ℕ → ℕ → Decl
 load_buffer n prio = record {
   name = load_name n;
@@ -36,7 +36,7 @@ load_buffer n prio = record {
   placement = load_placement;
 }
 
--- the first so many buffers, whose priorities are drawn one after another, and the generator after them
+-- the buffers below the given number, whose priorities are drawn one after another, and the generator after them
 unfoldable pub load_buffers : ℕ → Lcg → List Decl × Lcg
 load_buffers zero g = ([], g)
 load_buffers (suc n) g =

@@ -19,11 +19,11 @@ kind_of n =
     else if n == 6 then kind.SwapOut
     else kind.Touch
 
--- the buffer of a thread with this number: the threads' buffers stand in turn
+-- buffer number `i` of thread `t`: the threads' buffers stand in turn
 abbrev pub own_buffer : ℕ → ℕ → BufId
 own_buffer t i = record { 0 = 3 * i + t }
 
--- the buffer so many after another one, counted in a ring of eight
+-- the buffer that stands `distance` + 1 places after buffer `i`, counted in a ring of eight
 abbrev pub behind : ℕ → ℕ → ℕ
 behind i distance = (i + 1 + distance) % 8
 

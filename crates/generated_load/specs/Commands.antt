@@ -24,7 +24,7 @@ command_by kind.Touch t c = command.Touch t
 abbrev pub load_command : ℕ → Choice → Command
 load_command t c = command_by c.kind t c
 
--- so many commands of a thread, drawn one after another, and the generator after them
+-- as many commands of thread `t` as the first argument says, drawn one after another, and the generator after them
 unfoldable pub drawn_commands : ℕ → ℕ → Lcg → List Command × Lcg
 drawn_commands zero t g = ([], g)
 drawn_commands (suc n) t g =
@@ -32,24 +32,24 @@ drawn_commands (suc n) t g =
     let choice = load_choice t before.1 in
     (before.0 ++ load_command t choice.0 ∷ [], choice.1)
 
--- makes a thread's first so many buffers
+-- the commands that make the buffers of thread `t` below the given number
 unfoldable pub news : ℕ → ℕ → List Command
 news zero t = []
 news (suc n) t = news n t ++ command.New (own_buffer t n) ∷ []
 
--- reads the first bytes of a thread's first so many buffers
+-- the commands that read the first bytes of the buffers of thread `t` below the given number
 unfoldable pub reads : ℕ → ℕ → List Command
 reads zero t = []
 reads (suc n) t = reads n t ++ command.Read (own_buffer t n) 0 16 ∷ []
 
--- A thread, counted from 0: it makes its eight buffers, does two hundred commands that are drawn, and reads of each buffer. And the
--- generator after them.
+-- The commands of thread `t`, counted from 0, and the generator after them. The thread makes its eight buffers, does two hundred commands that are
+-- drawn, and reads from each buffer.
 abbrev pub load_commands : ℕ → Lcg → List Command × Lcg
 load_commands t g =
     let drawn = drawn_commands 200 t g in
     (news 8 t ++ drawn.0 ++ reads 8 t, drawn.1)
 
--- the first so many threads, drawn one after another, and the generator after them
+-- the commands of the threads below the given number, drawn one after another, and the generator after them
 unfoldable pub load_threads : ℕ → Lcg → List (List Command) × Lcg
 load_threads zero g = ([], g)
 load_threads (suc n) g =

@@ -8,6 +8,6 @@ use Rattle.rand_pcg.specs.Pcg.{pcg32, pcg32_of_seed}
 unfoldable pub seeded : ℕ → Lcg
 seeded n = pcg32_of_seed (pcg32_seed 16 n)
 
--- its next word modulo k, and the generator after it
+-- the generator's next word modulo `k`, and the generator after it
 unfoldable pub draw : ℕ → Lcg → ℕ × Lcg
 draw k g = ((pcg32 g).0 % k, (pcg32 g).1)

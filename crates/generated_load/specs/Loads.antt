@@ -6,7 +6,7 @@ use Rattle.generated_load.specs.Draws.{seeded}
 use Rattle.generated_load.specs.Buffers.{load_sizes, load_buffers}
 use Rattle.generated_load.specs.Commands.{load_threads}
 
--- Twenty-four buffers, whose priorities are drawn first, and then the commands of three threads.
+-- The script drawn from `n`: twenty-four buffers, whose priorities are drawn first, and then the commands of three threads.
 unfoldable pub load_script : ℕ → Script
 load_script n =
     let buffers = load_buffers 24 (seeded n) in

@@ -7,7 +7,7 @@ use journal_model::{Decl, Decls, Name};
 use std::alloc::Global;
 use ttm_base::{FlaggedPlace, FlaggedPlaces, Mem, NoMemory, Place, Placement};
 
-/// The letter b and the buffer's number.
+/// Returns the name of a buffer: the letter b and the buffer's number.
 fn name(alloc: Global, number: u32) -> Result<Name, NoMemory>
     requires { number < 24 }
     ensures { IfOk result (λ name. name ≡ load_name number) }
@@ -21,7 +21,7 @@ fn name(alloc: Global, number: u32) -> Result<Name, NoMemory>
     Ok(name)
 }
 
-/// Buffers of 4 to 16 pages: each thread has eight of them.
+/// Returns how many pages a buffer has, from 4 to 16: each thread has eight buffers.
 fn pages(number: u32) -> u32
     ensures { result ≡ load_pages number }
 {
@@ -36,7 +36,7 @@ fn pages(number: u32) -> u32
     }
 }
 
-/// All of a memory type.
+/// Returns the place that is all of the memory type `mem`.
 fn whole(mem: Mem) -> Place
     ensures { result ≡ whole mem }
 {
@@ -49,7 +49,7 @@ fn whole(mem: Mem) -> Place
     }
 }
 
-/// VRAM is preferred, and under pressure VRAM and TT are tried.
+/// Returns the placement of each buffer: VRAM is preferred, and under pressure VRAM and TT are tried.
 fn placement(alloc: Global) -> Result<Placement, NoMemory>
     ensures { IfOk result (λ placement. placement ≡ load_placement) }
 {
@@ -72,7 +72,7 @@ fn placement(alloc: Global) -> Result<Placement, NoMemory>
     Ok(Placement { list })
 }
 
-/// A buffer. The members of a group are the buffers of a thread.
+/// Returns buffer `number`. The members of a group are the buffers of a thread.
 fn buffer(alloc: Global, number: u32, prio: u32) -> Result<Decl, NoMemory>
     requires { number < 24 }
     ensures { IfOk result (λ decl. decl ≡ load_buffer number prio) }
@@ -87,7 +87,7 @@ fn buffer(alloc: Global, number: u32, prio: u32) -> Result<Decl, NoMemory>
     })
 }
 
-/// The buffers, whose priorities are drawn in their order.
+/// Returns the 24 buffers, whose priorities are drawn in their order.
 pub fn draw_buffers(alloc: Global, draws: &mut Draws) -> Result<Decls, NoMemory>
     ensures { IfOk result (λ buffers. (buffers, draws.new) ≡ load_buffers 24 draws.old) }
 {

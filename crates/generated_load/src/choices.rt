@@ -18,7 +18,7 @@ pub enum ChoiceKind {
     Touch,
 }
 
-/// What is drawn for a command of a thread: two of its buffers, an offset and a byte, and an engine.
+/// The draws for a command of a thread: two of its buffers, an offset and a byte, and an engine.
 #[derive(Clone, Copy, PartialEq, Eq)]
 pub struct Choice {
     pub kind: ChoiceKind,
@@ -44,7 +44,7 @@ fn kind_of(number: u32) -> ChoiceKind
     }
 }
 
-/// A buffer of a thread: the threads' buffers stand in turn.
+/// Returns buffer `number` of `thread`: the threads' buffers stand in turn.
 pub fn own_buffer(thread: u32, number: u32) -> BufId
     requires thread { thread < 3 }
     requires number { number < 8 }
@@ -53,7 +53,7 @@ pub fn own_buffer(thread: u32, number: u32) -> BufId
     BufId(3 * number + thread)
 }
 
-/// The buffer so many after another one, counted in a ring of eight.
+/// Returns the buffer that stands `distance` + 1 places after buffer `number`, counted in a ring of eight.
 fn behind(number: u32, distance: u32) -> u32
     requires number { number < 8 }
     requires distance { distance < 7 }

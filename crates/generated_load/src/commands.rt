@@ -8,13 +8,13 @@ use journal_model::{Bytes, Command, Commands, Ops};
 use std::alloc::Global;
 use ttm_base::{NoMemory, Op};
 
-/// How many bytes a read, a write, a fill and an exclusive or take.
+/// The number of bytes that a read, a write, a fill and an exclusive or take.
 const LEN: u32 = 16;
 
-/// How many bytes a copy takes: all of the smallest buffers.
+/// The number of bytes that a copy takes: all of the smallest buffers.
 const COPY_LEN: u32 = 16384;
 
-/// A byte, sixteen times.
+/// Returns a list with `byte` sixteen times.
 fn repeated(alloc: Global, byte: u8) -> Result<Bytes, NoMemory>
     ensures { IfOk result (λ bytes. bytes ≡ replicate 16 byte) }
 {
@@ -25,7 +25,7 @@ fn repeated(alloc: Global, byte: u8) -> Result<Bytes, NoMemory>
     Ok(bytes)
 }
 
-/// A job of one operation.
+/// Returns a job of one operation on `engine`.
 fn job(alloc: Global, engine: u32, op: Op) -> Result<Command, NoMemory>
     ensures { IfOk result (λ command. command ≡ Command.Submit engine (op ∷ [])) }
 {
@@ -34,7 +34,7 @@ fn job(alloc: Global, engine: u32, op: Op) -> Result<Command, NoMemory>
     Ok(Command::Submit { engine, ops })
 }
 
-/// A job of two operations.
+/// Returns a job of two operations on `engine`.
 fn job_of_two(alloc: Global, engine: u32, first: Op, second: Op) -> Result<Command, NoMemory>
     ensures { IfOk result (λ command. command ≡ Command.Submit engine (first ∷ second ∷ [])) }
 {
@@ -96,7 +96,7 @@ fn fill_and_probe(alloc: Global, choice: Choice) -> Result<Command, NoMemory>
     )
 }
 
-/// The command of a choice. A thread touches the group of its own buffers.
+/// Returns the command of a choice. A thread touches the group of its own buffers.
 fn command_of(alloc: Global, choice: Choice, thread: u32) -> Result<Command, NoMemory>
     ensures { IfOk result (λ command. command ≡ load_command thread choice) }
 {
@@ -120,7 +120,7 @@ fn command_of(alloc: Global, choice: Choice, thread: u32) -> Result<Command, NoM
     }
 }
 
-/// Makes each of a thread's buffers.
+/// Appends a command for each buffer of `thread` that makes it.
 fn add_news(commands: &mut Commands, thread: u32) -> Result<(), NoMemory>
     requires { thread < 3 }
     ensures { OnOk result (commands.new ≡ commands.old ++ news 8 thread) }
@@ -133,7 +133,7 @@ fn add_news(commands: &mut Commands, thread: u32) -> Result<(), NoMemory>
     Ok(())
 }
 
-/// Draws two hundred commands.
+/// Draws two hundred commands of `thread`, and appends them.
 fn draw_more(
     alloc: Global,
     draws: &mut Draws,
@@ -151,7 +151,7 @@ fn draw_more(
     Ok(())
 }
 
-/// Reads the first bytes of each of a thread's buffers.
+/// Appends a command for each buffer of `thread` that reads its first bytes.
 fn add_reads(commands: &mut Commands, thread: u32) -> Result<(), NoMemory>
     requires { thread < 3 }
     ensures { OnOk result (commands.new ≡ commands.old ++ reads 8 thread) }
@@ -166,7 +166,7 @@ fn add_reads(commands: &mut Commands, thread: u32) -> Result<(), NoMemory>
     Ok(())
 }
 
-/// The commands of a thread, counted from 0.
+/// Returns the commands of `thread`, counted from 0: they make its buffers, then do what is drawn, and then read the first bytes of each buffer.
 pub fn draw_commands(alloc: Global, draws: &mut Draws, thread: u32) -> Result<Commands, NoMemory>
     requires { thread < 3 }
     ensures { IfOk result (λ commands. (commands, draws.new) ≡ load_commands thread draws.old) }

@@ -30,7 +30,7 @@ impl Draws {
         }
     }
 
-    /// The next word of 32 bits, modulo `count`.
+    /// Draws the next word of 32 bits, and returns it modulo `count`.
     #[tactic(auto, unfolding(crate::specs::Draws::draw))]
     pub fn draw(&mut self, count: u32) -> u32
         requires { 0 < count }

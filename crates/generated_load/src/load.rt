@@ -11,7 +11,7 @@ use script_spelling::write_script;
 use std::alloc::Global;
 use ttm_base::NoMemory;
 
-/// The commands of all threads, drawn in their order.
+/// Returns the commands of all threads, drawn in their order.
 fn draw_threads(alloc: Global, draws: &mut Draws) -> Result<CommandLists, NoMemory>
     ensures { IfOk result (λ threads. (threads, draws.new) ≡ load_threads 3 draws.old) }
 {
@@ -48,11 +48,11 @@ fn draw_script(alloc: Global, number: u64) -> Result<Script, NoMemory>
     })
 }
 
-/// The bytes of the script that is drawn from a number.
+/// Returns the bytes of the script that is drawn from `number`.
 ///
 /// # Errors
 ///
-/// Want of memory.
+/// Lack of memory.
 #[tactic(auto, using(crate::proofs::LoadLaws::is_load, crate::proofs::LoadLaws::spells))]
 pub fn generated(alloc: Global, number: u64) -> Result<Vec<u8>, NoMemory>
     ensures text { IfOk result (λ text. IsScript text.items (load_script number)) }

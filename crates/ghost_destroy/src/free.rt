@@ -11,7 +11,8 @@ use journal_model::{Command, Kind, Task};
 use room_state::room_turns::{Rooms, Step, make};
 use ttm_base::{Actor, BufId, NoMemory, Usage};
 
-/// A thread's Free is due: its command frees a buffer and is at work, since that buffer is held. Takes time as `Rooms::task` does.
+/// Returns whether a Free of `thread` is due: its command frees a buffer and is at work, since that buffer is held. Takes time as `Rooms::task`
+/// does.
 pub fn is_free_due(rooms: &Rooms, thread: u32) -> bool
     ensures { result ≡ free_due rooms.now.script (state_behind rooms.now) thread }
 {
@@ -21,7 +22,7 @@ pub fn is_free_due(rooms: &Rooms, thread: u32) -> bool
     }
 }
 
-/// A buffer goes: one whose jobs aren't done leaves a ghost.
+/// Returns the entry that frees buffer `b`: one whose jobs aren't done leaves a ghost.
 fn kind_of_free(rooms: &Rooms, b: BufId) -> Kind
     requires { b.0 < length rooms.now.script.buffers }
     ensures { step_of_act rooms.now.script (state_behind rooms.now) (command.Free b) ≡ Ok result }
@@ -33,7 +34,7 @@ fn kind_of_free(rooms: &Rooms, b: BufId) -> Kind
     Kind::Free { b, g }
 }
 
-/// The buffer of a thread's command goes, once its Free is due (ttm_bo_release). Where jobs that use it aren't done, a new ghost holds what it
+/// Frees the buffer of the command of `thread`, once its Free is due (ttm_bo_release). Where jobs that use it aren't done, a new ghost holds what it
 /// held.
 ///
 /// # Errors

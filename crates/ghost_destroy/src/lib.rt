@@ -1,4 +1,5 @@
-//! Buffers that are freed: held until their jobs are done, and reaped. Each call makes the one entry that its actor makes next, or says what it needs first.
+//! Freed buffers: they are held until their jobs are done, and then reaped. Each call makes the one entry that its actor makes next, or returns what
+//! it needs first.
 #![tactic(auto)]
 
 mod free;

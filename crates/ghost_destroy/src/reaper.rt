@@ -10,7 +10,7 @@ use journal_model::Kind;
 use room_state::room_turns::{Rooms, Step, turn};
 use ttm_base::{Actor, Need, NoMemory};
 
-/// The end of the first ghost, once the job that it waits for is done.
+/// Returns the entry that ends the first ghost, once the job that it waits for is done; until then, that job.
 fn next_end(rooms: &Rooms) -> Result<Kind, Need>
     ensures { result ≡ step_of_reaper (state_behind rooms.now) }
 {
@@ -21,7 +21,7 @@ fn next_end(rooms: &Rooms) -> Result<Kind, Need>
     }
 }
 
-/// The first ghost, which is the oldest, ends: what it holds is free again (ttm_bo_delayed_delete).
+/// Ends the first ghost, which is the oldest: what it holds is free again (ttm_bo_delayed_delete).
 ///
 /// # Errors
 ///

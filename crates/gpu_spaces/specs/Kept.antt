@@ -5,7 +5,7 @@ use Rattle.journal_model.specs.marks.Spaces.{Region}
 use Rattle.gpu_spaces.specs.declared.mappings.Rest.{Rest}
 use Rattle.gpu_spaces.specs.declared.mappings.Mapping.{Mapping}
 
--- a mapping as it is kept
+-- a mapping under its first page, as the definitions have it
 abbrev pub region_at : ℕ × Rest → Region
 region_at e = record { span = record { start = e.0; end = e.1.end }; b = e.1.b; off = e.1.off }
 
@@ -13,6 +13,6 @@ region_at e = record { span = record { start = e.0; end = e.1.end }; b = e.1.b; 
 abbrev pub regions_in : BTreeMap ℕ Rest → List Region
 regions_in m = map region_at m.entries
 
--- a mapping as it is passed on
+-- a mapping, as the definitions have it
 abbrev pub region_of : Mapping → Region
 region_of m = record { span = m.span; b = m.b; off = m.off }

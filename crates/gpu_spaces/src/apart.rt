@@ -1,4 +1,4 @@
-//! Which buffers ranges of addresses have.
+//! The buffers to which ranges of addresses are mapped.
 ghost use Rattle.std.specs.Prelude.{◌≡◌, ℕ, ◌+◌, ◌/◌, ◌<◌, ◌≤◌, ◌++◌, true, map, filter, IfOk, OnOk};
 ghost use Rattle.std.specs.List.{list_any};
 ghost use Rattle.journal_model.specs.marks.Spaces.{does_meet};
@@ -18,10 +18,10 @@ use std::alloc::Global;
 use ttm_base::limits::PAGE_BYTES;
 use ttm_base::{BufId, NoMemory, Span};
 
-/// The bytes of a page.
+/// The size of a page in bytes.
 const PAGE: u64 = PAGE_BYTES as u64;
 
-/// The pages of a range of addresses.
+/// Returns the pages of a range of addresses.
 fn pages_of(addr: u64, len: u32) -> Span
     requires { addr + len ≤ 4294967296 }
     ensures { result ≡ record { start = addr / 4096; end = (addr + len + 4095) / 4096 } }
@@ -32,7 +32,7 @@ fn pages_of(addr: u64, len: u32) -> Span
     }
 }
 
-/// Puts the buffers of the mappings that a range meets after others.
+/// Appends the buffers of the mappings that a range meets to `out`.
 fn push_buffers(mappings: &Mappings, range: Span, out: &mut BufIds) -> Result<(), NoMemory>
     requires rising { IsRising (regions_in mappings.now) }
     requires some { range.start < range.end }
@@ -48,7 +48,7 @@ fn push_buffers(mappings: &Mappings, range: Span, out: &mut BufIds) -> Result<()
     Ok(())
 }
 
-/// The buffers of a range of addresses, as far as its pages are mapped.
+/// Returns the buffers of a range of addresses, as far as its pages are mapped.
 fn buffers_between(
     alloc: Global,
     mappings: &Mappings,
@@ -67,7 +67,7 @@ fn buffers_between(
     Ok(buffers)
 }
 
-/// The set of some buffers.
+/// Returns the set of the buffers of a list.
 fn set_of(alloc: Global, buffers: &[BufId]) -> Result<BufferSet, NoMemory>
     ensures { IfOk result (λ set. IsSetOf set buffers.now) }
 {
@@ -78,14 +78,14 @@ fn set_of(alloc: Global, buffers: &[BufId]) -> Result<BufferSet, NoMemory>
     Ok(set)
 }
 
-/// The set has one of the buffers.
+/// Returns whether one of the buffers is in the set.
 fn has_one_of(set: &BufferSet, buffers: &[BufId]) -> bool
     ensures { result ≡ list_any (λ b. is_member set.now b.0) buffers.now }
 {
     buffers.iter().any(|b| set.has(*b))
 }
 
-/// No buffer stands in both lists.
+/// Returns whether no buffer is in both lists.
 fn are_apart(alloc: Global, some: &[BufId], others: &[BufId]) -> Result<bool, NoMemory>
     ensures { IfOk result (λ apart. apart ≡ marks.are_apart some.now others.now) }
 {
@@ -93,7 +93,7 @@ fn are_apart(alloc: Global, some: &[BufId], others: &[BufId]) -> Result<bool, No
     Ok(!has_one_of(&set, others))
 }
 
-/// No buffer stands in both ranges of a copy or xor, as far as their pages are mapped.
+/// Returns whether no buffer is in both ranges of a copy or xor, as far as their pages are mapped.
 fn have_apart(
     alloc: Global,
     mappings: &Mappings,
@@ -111,7 +111,7 @@ fn have_apart(
     are_apart(alloc, some.items(), others.items())
 }
 
-/// The same of an operation.
+/// Returns whether no buffer is in both ranges of an operation, as far as their pages are mapped.
 pub(crate) fn is_apart(alloc: Global, mappings: &Mappings, op: VOp) -> Result<bool, NoMemory>
     requires rising { IsRising (regions_in mappings.now) }
     requires inside { is_inside op ≡ true }

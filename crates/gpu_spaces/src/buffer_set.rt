@@ -7,12 +7,12 @@ use std::collections::BTreeSet;
 use std::marker::Model;
 use ttm_base::{BufId, NoMemory};
 
-/// Buffers, each once.
+/// A set of buffers, each of them once.
 pub struct BufferSet {
     set: BTreeSet<u32>,
 }
 
-/// By hand, so that no crate above proves how each part goes.
+/// Names each part, so that no crate above proves how they are dropped.
 impl Drop for BufferSet {
     fn drop(self) {
         let Self { set: _ } = self;
@@ -28,7 +28,7 @@ impl Model for BufferSet {
 }
 
 impl BufferSet {
-    /// No buffers.
+    /// Returns the empty set.
     pub fn new(alloc: Global) -> BufferSet
         ensures { result ≡ [] }
     {
@@ -37,14 +37,14 @@ impl BufferSet {
         }
     }
 
-    /// The set has the buffer.
+    /// Returns whether the buffer `b` is in the set.
     pub fn has(&self, b: BufId) -> bool
         ensures { result ≡ is_member self.now b.0 }
     {
         self.set.contains(&b.0)
     }
 
-    /// Puts a buffer in.
+    /// Adds the buffer `b` to the set.
     pub fn add(&mut self, b: BufId) -> Result<(), NoMemory>
         ensures { OnOk result ((n : ℕ) → is_member self.new n ≡ (if b.0 == n then true else is_member self.old n)) }
     {
@@ -52,7 +52,7 @@ impl BufferSet {
         Ok(())
     }
 
-    /// Takes a buffer out.
+    /// Removes the buffer `b` from the set.
     pub fn remove(&mut self, b: BufId)
         ensures { (n : ℕ) → is_member self.new n ≡ (if b.0 == n then false else is_member self.old n) }
     {

@@ -1,4 +1,4 @@
-//! What a request does to the mappings.
+//! How a request changes the mappings.
 ghost use Rattle.std.specs.Prelude.{◌≡◌, ℕ, ◌+◌, ◌-◌, ◌<◌, ◌≤◌, IsSome, IfSome, OnOk, OnErr, None, option_map, option_to_list};
 ghost use Rattle.law_legal.specs.law_spaces.Sides.{sides};
 ghost use Rattle.gpu_spaces.specs.Kept.{regions_in, region_of};
@@ -7,7 +7,7 @@ ghost use Rattle.gpu_spaces.specs.Regions.{starting, head_at, tail_at, over, set
 use crate::mappings::{Mapping, Mappings, around, clear, put, take_out};
 use ttm_base::{NoMemory, Span};
 
-/// What stands of a mapping before a page.
+/// Returns the part of a mapping before a page, if there is one.
 fn head(mapping: Option<Mapping>, page: u32) -> Option<Mapping>
     ensures { option_map region_of result ≡ head_at page (option_map region_of mapping) }
 {
@@ -22,7 +22,7 @@ fn head(mapping: Option<Mapping>, page: u32) -> Option<Mapping>
     Some(Mapping { span, ..mapping })
 }
 
-/// What stands of a mapping from a page on, if it begins before it.
+/// Returns the part of a mapping from a page on, if the mapping begins before that page.
 fn tail(mapping: Option<Mapping>, page: u32) -> Option<Mapping>
     requires page { IfSome mapping (λ m. page ≤ m.span.end) }
     requires small { IfSome mapping (λ m. m.off + (m.span.end - m.span.start) ≤ 4096) }
@@ -42,7 +42,7 @@ fn tail(mapping: Option<Mapping>, page: u32) -> Option<Mapping>
     })
 }
 
-/// Puts another mapping in the place of one that begins where it does.
+/// Replaces the mapping that begins where `mapping` does.
 fn replace(mappings: &mut Mappings, mapping: Mapping)
     requires { IsSome (starting mapping.span.start (regions_in mappings.old)) }
     ensures left { (q : ℕ) → starting q (regions_in mappings.new) ≡ over (Some (region_of mapping)) (λ p. starting p (regions_in mappings.old)) q }
@@ -54,7 +54,7 @@ fn replace(mappings: &mut Mappings, mapping: Mapping)
     }
 }
 
-/// Puts a mapping at a page, or none.
+/// Puts the mapping `new` at the page `page`, or removes the one there. Where memory is refused nothing changes.
 fn set(mappings: &mut Mappings, page: u32, new: Option<Mapping>) -> Result<(), NoMemory>
     requires { IfSome new (λ m. m.span.start ≡ page) }
     ensures ok { OnOk result ((q : ℕ) → starting q (regions_in mappings.new) ≡ set_at page (option_map region_of new) (λ p. starting p (regions_in mappings.old)) q) }
@@ -70,7 +70,8 @@ fn set(mappings: &mut Mappings, page: u32, new: Option<Mapping>) -> Result<(), N
     }
 }
 
-/// Puts in what takes memory: what stays behind the range, and what is new at its start.
+/// Puts in the two mappings that take memory: the part that is left after the range, and the new mapping at its start. Where
+/// memory is refused nothing changes.
 fn put_both(
     mappings: &mut Mappings,
     tail: Option<Mapping>,
@@ -94,7 +95,7 @@ fn put_both(
     Ok(())
 }
 
-/// Gives the pages of a range to a mapping, or to none.
+/// Gives the pages of a range to the mapping `new`, or unmaps them. Where memory is refused nothing changes.
 pub(crate) fn change(
     mappings: &mut Mappings,
     range: Span,

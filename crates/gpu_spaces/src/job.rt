@@ -1,4 +1,4 @@
-//! The job by name: operations with addresses, cut at the borders of mappings.
+//! The job by name: operations with addresses, cut at the borders of mappings into operations on buffers.
 ghost use Rattle.std.specs.Prelude.{◌≡◌, ◌+◌, ◌-◌, ◌≤◌, ◌++◌, true, false, Some, None, IfOk, length, min, option_map, if◌then◌else◌};
 ghost use Rattle.std.specs.List.{list_all};
 ghost use Rattle.journal_model.specs.marks.ByName as name;
@@ -14,7 +14,7 @@ use journal_model::{Ops, VOp};
 use std::alloc::Global;
 use ttm_base::{NoMemory, Op};
 
-/// How many bytes an operation takes.
+/// Returns the length of an operation in bytes.
 fn vop_len(op: VOp) -> u32
     ensures { result ≡ name.vop_len op }
 {
@@ -26,7 +26,7 @@ fn vop_len(op: VOp) -> u32
     }
 }
 
-/// The address that is written, or that a probe reads.
+/// Returns the first address that is written, or that a probe reads.
 fn first_address(op: VOp) -> u64
     ensures { result ≡ name.first_address op }
 {
@@ -38,7 +38,7 @@ fn first_address(op: VOp) -> u64
     }
 }
 
-/// The address that is read beside it.
+/// Returns the address that is read to be copied or xored, or the first address where an operation has only one.
 fn second_address(op: VOp) -> u64
     ensures { result ≡ name.second_address op }
 {
@@ -48,7 +48,7 @@ fn second_address(op: VOp) -> u64
     }
 }
 
-/// `n` bytes of an operation, from one spot and, where it has two, from the other.
+/// Returns the operation by name on `n` bytes, from one spot and, if it has two ranges, from the other.
 fn op_by_name(op: VOp, first: Spot, second: Spot, n: u32) -> Op
     ensures { result ≡ name.op_by_name op (spot_of first) (spot_of second) n }
 {
@@ -81,7 +81,7 @@ fn op_by_name(op: VOp, first: Spot, second: Spot, n: u32) -> Op
     }
 }
 
-/// Puts an operation by name after others. False where a page isn't mapped.
+/// Appends the operations by name of an operation to `job`. Returns false where a page isn't mapped.
 fn push_ops(mappings: &Mappings, op: VOp, job: &mut Ops) -> Result<bool, NoMemory>
     requires kept { IsKept (regions_in mappings.now) }
     requires inside { is_inside op ≡ true }
@@ -103,7 +103,7 @@ fn push_ops(mappings: &Mappings, op: VOp, job: &mut Ops) -> Result<bool, NoMemor
     Ok(true)
 }
 
-/// The job by name. None where a page isn't mapped.
+/// Returns the job by name, or None where a page isn't mapped.
 pub(crate) fn job_of(
     alloc: Global,
     mappings: &Mappings,
@@ -122,7 +122,7 @@ pub(crate) fn job_of(
     Ok(Some(job))
 }
 
-/// How many operations by name there are with those of an operation, counted up to `most`. None where a page isn't mapped.
+/// Adds the number of operations by name of an operation to `before`, up to `most`. Returns None where a page isn't mapped.
 fn count_ops(mappings: &Mappings, op: VOp, before: u32, most: u32) -> Option<u32>
     requires kept { IsKept (regions_in mappings.now) }
     requires inside { is_inside op ≡ true }
@@ -146,7 +146,7 @@ fn count_ops(mappings: &Mappings, op: VOp, before: u32, most: u32) -> Option<u32
     Some(count)
 }
 
-/// How many operations the job by name has, counted up to `most`. None where a page isn't mapped.
+/// Counts the operations of the job by name, up to `most`. Returns None where a page isn't mapped.
 pub(crate) fn job_len(mappings: &Mappings, ops: &[VOp], most: u32) -> Option<u32>
     requires kept { IsKept (regions_in mappings.now) }
     requires inside { list_all is_inside ops.now ≡ true }

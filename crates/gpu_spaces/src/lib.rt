@@ -1,4 +1,4 @@
-//! The address space of a GPU thread: which page of a buffer stands at each of its pages (drm_gpuvm).
+//! The address space of a GPU thread: each of its pages may be mapped to a page of a buffer (drm_gpuvm).
 #![tactic(auto)]
 
 mod apart;

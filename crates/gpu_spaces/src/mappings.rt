@@ -10,7 +10,7 @@ ghost use Rattle.gpu_spaces.specs.Regions.{starting, over, set_at, IsOrdered};
 use std::collections::BTreeMap;
 use ttm_base::{BufId, NoMemory, Span};
 
-/// A mapping: pages of the space, and the buffer's pages from `off` on.
+/// A mapping: pages of the space, and the buffer whose pages from `off` on they are mapped to.
 #[derive(Clone, Copy)]
 pub(crate) struct Mapping {
     pub span: Span,
@@ -18,7 +18,7 @@ pub(crate) struct Mapping {
     pub off: u32,
 }
 
-/// A mapping without its first page, by which it is kept.
+/// A mapping without its first page, which is its key.
 #[derive(Clone, Copy)]
 pub(crate) struct Rest {
     pub end: u32,
@@ -28,7 +28,7 @@ pub(crate) struct Rest {
 
 pub(crate) type Mappings = BTreeMap<u32, Rest>;
 
-/// The mapping that has a page.
+/// Returns the mapping that has the page `page`, if there is one.
 pub(crate) fn around(mappings: &Mappings, page: u32) -> Option<Mapping>
     requires { IsRising (regions_in mappings.now) }
     ensures { option_map region_of result ≡ find (λ r. has_page page r.span) (regions_in mappings.now) }
@@ -42,7 +42,7 @@ pub(crate) fn around(mappings: &Mappings, page: u32) -> Option<Mapping>
     Some(mapping_at(*start, *rest))
 }
 
-/// The mapping that is kept under a page.
+/// Returns the mapping that is kept under the page `start`.
 pub(crate) fn mapping_at(start: u32, rest: Rest) -> Mapping
     ensures { region_of result ≡ region_at (start, rest) }
 {
@@ -57,7 +57,7 @@ pub(crate) fn mapping_at(start: u32, rest: Rest) -> Mapping
     }
 }
 
-/// Puts a mapping in, in the place of the one that begins where it does.
+/// Puts a mapping in, and replaces the one that begins where it does. Where memory is refused nothing changes.
 pub(crate) fn put(mappings: &mut Mappings, mapping: Mapping) -> Result<(), NoMemory>
     ensures ok { OnOk result ((q : ℕ) → starting q (regions_in mappings.new) ≡ over (Some (region_of mapping)) (λ p. starting p (regions_in mappings.old)) q) }
     ensures absent { OnErr result (starting mapping.span.start (regions_in mappings.old) ≡ None) }
@@ -73,7 +73,7 @@ pub(crate) fn put(mappings: &mut Mappings, mapping: Mapping) -> Result<(), NoMem
     Ok(())
 }
 
-/// Takes out the mapping that begins at a page, if there is one.
+/// Removes the mapping that begins at the page `start`, if there is one.
 pub(crate) fn take_out(mappings: &mut Mappings, start: u32)
     ensures left { (q : ℕ) → starting q (regions_in mappings.new) ≡ set_at start None (λ p. starting p (regions_in mappings.old)) q }
     ensures ordered { IsOrdered (regions_in mappings.new) }
@@ -81,7 +81,7 @@ pub(crate) fn take_out(mappings: &mut Mappings, start: u32)
     mappings.remove(&start);
 }
 
-/// Takes out the mappings that begin in a range.
+/// Removes the mappings that begin in a range.
 pub(crate) fn clear(mappings: &mut Mappings, range: Span)
     requires { range.start ≤ range.end }
     ensures left { (q : ℕ) → starting q (regions_in mappings.new) ≡ (if has_page q range then None else starting q (regions_in mappings.old)) }
@@ -92,7 +92,7 @@ pub(crate) fn clear(mappings: &mut Mappings, range: Span)
     }
 }
 
-/// Where the first mapping begins that begins in a range.
+/// Returns the first page of the first mapping that begins in a range, if there is one.
 fn first_in(mappings: &Mappings, range: Span) -> Option<u32>
     requires { range.start ≤ range.end }
     ensures some { IfSome result (ContainsKey nat_cmp mappings.now) }

@@ -1,4 +1,4 @@
-//! The parts of a range of addresses.
+//! The parts of a range of addresses, of which each is in one buffer.
 ghost use Rattle.std.specs.Prelude.{◌≡◌, ◌+◌, ◌≤◌, IfOk, map, option_map};
 ghost use Rattle.journal_model.specs.marks.ByName.{parts_of_range};
 ghost use Rattle.gpu_spaces.specs.Kept.{regions_in};
@@ -10,7 +10,7 @@ use crate::spot::spot_at;
 use std::alloc::Global;
 use ttm_base::{BufId, ItemList, NoMemory};
 
-/// Bytes of one buffer that a range of addresses has side by side.
+/// Bytes of one buffer to which a range of addresses is mapped side by side.
 #[derive(Clone, Copy)]
 pub struct Piece {
     pub b: BufId,
@@ -20,7 +20,7 @@ pub struct Piece {
 
 pub type Pieces = ItemList<Piece>;
 
-/// The parts of a range of addresses. None where a page isn't mapped.
+/// Returns the parts of a range of addresses, or None where a page isn't mapped.
 pub(crate) fn pieces_of(
     alloc: Global,
     mappings: &Mappings,

@@ -28,7 +28,7 @@ pub struct Space {
     mappings: Mappings,
 }
 
-/// Written out, so that no crate above proves how each part is dropped.
+/// Names each part, so that no crate above proves how they are dropped.
 impl Drop for Space {
     fn drop(self) {
         let Self { mappings: _ } = self;
@@ -49,7 +49,7 @@ impl Model for Space {
 }
 
 impl Space {
-    /// Nothing is mapped.
+    /// Returns a space in which nothing is mapped.
     pub fn new(alloc: Global) -> Space
         ensures { result ≡ [] }
     {
@@ -58,8 +58,8 @@ impl Space {
         }
     }
 
-    /// Maps the `n` pages from `va` on to the pages of buffer `b` from `off` on, and tells in `steps` what becomes of the mappings that they
-    /// meet (drm_gpuvm_sm_map). After `NoMemory` nothing is changed.
+    /// Maps the `n` pages from page `va` on to the pages of the buffer `b` from page `off` on, and puts into `steps` how the
+    /// mappings that they meet change (drm_gpuvm_sm_map). After `NoMemory` nothing is changed.
     pub fn map(
         &mut self,
         va: u32,
@@ -87,8 +87,8 @@ impl Space {
         self.request(span, Some(Mapping { span, b, off }), steps)
     }
 
-    /// Unmaps the `n` pages from `va` on, and tells in `steps` what becomes of the mappings that they meet (drm_gpuvm_sm_unmap). After
-    /// `NoMemory` nothing is changed.
+    /// Unmaps the `n` pages from page `va` on, and puts into `steps` how the mappings that they meet change
+    /// (drm_gpuvm_sm_unmap). After `NoMemory` nothing is changed.
     pub fn unmap(&mut self, va: u32, n: u32, steps: &mut VSteps) -> Result<(), NoMemory>
         requires some { 1 ≤ n }
         requires inside { va + n ≤ SPACE_PAGES }
@@ -108,7 +108,7 @@ impl Space {
         self.request(span, None, steps)
     }
 
-    /// Answers the buffer and its page that stand at `page`, or None where `page` isn't mapped.
+    /// Returns the buffer and its page to which `page` is mapped, or None where `page` isn't mapped.
     pub fn at(&self, page: u32) -> Option<(BufId, u32)>
         ensures { result ≡ regions_space self.now page }
     {
@@ -118,8 +118,8 @@ impl Space {
         }
     }
 
-    /// Cuts the `len` bytes from address `addr` on at each border of a mapping, and answers their parts in rising order, or None where a page
-    /// of theirs isn't mapped.
+    /// Cuts the `len` bytes from address `addr` on at each border of a mapping, and returns their parts in rising order, or
+    /// None where one of their pages isn't mapped.
     pub fn pieces(&self, alloc: Global, addr: u64, len: u32) -> Result<Option<Pieces>, NoMemory>
         requires { addr + len ≤ 4294967296 }
         ensures parts { IfOk result (λ pieces. option_map (map part_of) pieces ≡ parts_of_range self.now addr len) }
@@ -130,8 +130,9 @@ impl Space {
         pieces_of(alloc, &self.mappings, addr, len)
     }
 
-    /// Cuts each of `ops`, in rising address order, at the borders of mappings, and answers the job by name, or None where a page isn't mapped.
-    /// The job means what `ops` mean through the space, where no buffer stands in both ranges of one of them.
+    /// Cuts each of `ops`, in rising order of addresses, at the borders of mappings, and returns the job by name, or None
+    /// where a page isn't mapped. The job means what `ops` mean through the space, where no buffer is in both ranges of one
+    /// of them.
     pub fn job(&self, alloc: Global, ops: &[VOp]) -> Result<Option<Ops>, NoMemory>
         requires { list_all is_inside ops.now ≡ true }
         ensures job { IfOk result (λ job. job ≡ job_by_name self.now ops.now) }
@@ -140,7 +141,7 @@ impl Space {
         job_of(alloc, &self.mappings, ops)
     }
 
-    /// Counts the operations of that job up to `most`, or answers None where a page isn't mapped.
+    /// Counts the operations of the job that `job` returns, up to `most`, or returns None where a page isn't mapped.
     pub fn job_len(&self, ops: &[VOp], most: u32) -> Option<u32>
         requires { list_all is_inside ops.now ≡ true }
         ensures { result ≡ option_map (λ job. min (length job) most) (job_by_name self.now ops.now) }
@@ -148,7 +149,7 @@ impl Space {
         job_len(&self.mappings, ops, most)
     }
 
-    /// Tells whether no buffer stands in both ranges of `op`, as far as their pages are mapped.
+    /// Returns whether no buffer is in both ranges of `op`, as far as their pages are mapped.
     pub fn is_apart(&self, alloc: Global, op: VOp) -> Result<bool, NoMemory>
         requires { is_inside op ≡ true }
         ensures { IfOk result (λ apart. apart ≡ has_apart_ranges self.now op) }
@@ -164,7 +165,8 @@ impl Space {
     ghost use Rattle.law_legal.specs.law_spaces.Sides.{sides};
     ghost use Rattle.gpu_spaces.specs.Kept.{region_of};
 
-    /// Tells the steps of a request for `range`, and gives its pages to the mapping `new`, or unmaps them.
+    /// Puts the steps of a request for `range` into `steps`, and gives the pages of the range to the mapping `new`, or
+    /// unmaps them.
     fn request(
         &mut self,
         range: Span,

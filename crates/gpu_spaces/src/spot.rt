@@ -1,4 +1,4 @@
-//! Where an address stands.
+//! The spot of a buffer to which an address is mapped.
 ghost use Rattle.std.specs.Prelude.{◌≡◌, ◌+◌, ◌<◌, ◌≤◌, IfSome, option_map};
 ghost use Rattle.journal_model.specs.marks.ByName as name;
 ghost use Rattle.gpu_spaces.specs.Kept.{regions_in};
@@ -9,10 +9,10 @@ use crate::mappings::{Mappings, around};
 use ttm_base::BufId;
 use ttm_base::limits::PAGE_BYTES;
 
-/// The bytes of a page.
+/// The size of a page in bytes.
 const PAGE: u64 = PAGE_BYTES as u64;
 
-/// Where an address stands: a byte of a buffer, and how many bytes there are up to the end of the mapping.
+/// The spot to which an address is mapped: a byte of a buffer, and the number of bytes up to the end of the mapping.
 #[derive(Clone, Copy)]
 pub(crate) struct Spot {
     pub b: BufId,
@@ -20,7 +20,7 @@ pub(crate) struct Spot {
     pub room: u64,
 }
 
-/// Where an address stands, if its page is mapped.
+/// Returns the spot to which an address is mapped, or None where its page isn't mapped.
 pub(crate) fn spot_at(mappings: &Mappings, addr: u64) -> Option<Spot>
     requires kept { IsKept (regions_in mappings.now) }
     requires inside { addr < 4294967296 }

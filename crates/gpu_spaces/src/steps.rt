@@ -1,4 +1,4 @@
-//! The steps of a request.
+//! The steps of a request: how it changes each mapping that it meets.
 ghost use Rattle.std.specs.Prelude.{◌≡◌, ◌<◌, ◌++◌, [], OnOk, OnErr, map, filter, option_map, option_to_list};
 ghost use Rattle.journal_model.specs.marks.Spaces as words;
 ghost use Rattle.journal_model.specs.marks.Spaces.{does_meet, map_step};
@@ -9,7 +9,7 @@ use crate::mappings::{Mapping, Mappings, around, mapping_at};
 use journal_model::{VStep, VSteps};
 use ttm_base::{NoMemory, Span};
 
-/// What stays of pages before a range.
+/// Returns the part of pages before a range, if there is one.
 fn part_before(range: Span, pages: Span) -> Option<Span>
     ensures { result ≡ words.part_before range pages }
 {
@@ -22,7 +22,7 @@ fn part_before(range: Span, pages: Span) -> Option<Span>
     })
 }
 
-/// What stays of pages after a range.
+/// Returns the part of pages after a range, if there is one.
 fn part_after(range: Span, pages: Span) -> Option<Span>
     ensures { result ≡ words.part_after range pages }
 {
@@ -35,7 +35,7 @@ fn part_after(range: Span, pages: Span) -> Option<Span>
     })
 }
 
-/// What a request of a range does to a mapping that meets it.
+/// Returns the step by which a request for a range changes a mapping that meets it.
 fn step_at(range: Span, mapping: Mapping) -> VStep
     ensures { result ≡ words.step_at range (region_of mapping) }
 {
@@ -50,7 +50,7 @@ fn step_at(range: Span, mapping: Mapping) -> VStep
     }
 }
 
-/// Puts the steps of a request after others. Where memory is wanted, some may stand there.
+/// Appends the steps of a request to `out`. Where memory is refused some of them may be there.
 fn push_steps(
     mappings: &Mappings,
     range: Span,
@@ -78,7 +78,7 @@ fn push_steps(
     Ok(())
 }
 
-/// The steps of a request, or none where memory is wanted.
+/// Puts the steps of a request into `out`, which stays empty where memory is refused.
 pub(crate) fn list_steps(
     mappings: &Mappings,
     range: Span,

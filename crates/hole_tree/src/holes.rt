@@ -13,7 +13,7 @@ ghost use Rattle.hole_tree.specs.Trees.{IsBlankNode};
 use crate::hole::Hole;
 use crate::request::Request;
 use crate::sort::{ByLength, ByStart, Longest, Side};
-use crate::tree::{Node, Taken, Tree};
+use crate::tree::{Node, Tree};
 use std::alloc::Global;
 use std::marker::{Brand, Model};
 use step_count::Steps;
@@ -147,16 +147,9 @@ impl Holes {
         ensures spare { self.new.spare ≡ self.old.spare + 1 }
     {
         let begins = Hole::of(Span { start, end: start });
-        let Taken {
-            node: by_start,
-            lower: _,
-        } = self.by_start.take(&begins);
+        let by_start = self.by_start.take(&begins).node;
         let hole = by_start.hole;
-        let taken = self.by_length.take(&hole);
-        let Taken {
-            node: by_length,
-            lower: _,
-        } = taken;
+        let by_length = self.by_length.take(&hole).node;
         self.count -= 1;
         keep(
             &mut self.spare,
@@ -180,8 +173,7 @@ impl Holes {
     {
         let (from, to) = (Hole::of(from), Hole::of(to));
         self.by_start.resize(&from, &to);
-        let taken = self.by_length.take(&from);
-        let Taken { mut node, lower: _ } = taken;
+        let mut node = self.by_length.take(&from).node;
         node.hole = to;
         self.by_length.insert(node);
     }
@@ -217,12 +209,7 @@ impl Holes {
         requires { 1 ≤ align }
         ensures { result ≡ chosen_hole Best self.now.holes pages align first last }
     {
-        let request = Request {
-            pages,
-            align,
-            first,
-            last,
-        };
+        let request = Request::of(pages, align, first, last);
         self.choose::<Brand>(Mode::Best, request, Blank::new(1))
     }
 
@@ -231,12 +218,7 @@ impl Holes {
         requires { 1 ≤ align }
         ensures { result ≡ chosen_hole Low self.now.holes pages align first last }
     {
-        let request = Request {
-            pages,
-            align,
-            first,
-            last,
-        };
+        let request = Request::of(pages, align, first, last);
         self.choose::<Brand>(Mode::Low, request, Blank::new(1))
     }
 
@@ -245,12 +227,7 @@ impl Holes {
         requires { 1 ≤ align }
         ensures { result ≡ chosen_hole High self.now.holes pages align first last }
     {
-        let request = Request {
-            pages,
-            align,
-            first,
-            last,
-        };
+        let request = Request::of(pages, align, first, last);
         self.choose::<Brand>(Mode::High, request, Blank::new(1))
     }
 
@@ -284,12 +261,7 @@ impl Holes {
     {
         // (its levels bound the steps)
         self.by_length.balanced();
-        let request = Request {
-            pages,
-            align,
-            first,
-            last,
-        };
+        let request = Request::of(pages, align, first, last);
         self.by_length
             .shortest(request, steps)
             .map(|hole| hole.span())
@@ -311,12 +283,7 @@ impl Holes {
     {
         // (its levels bound the steps)
         self.by_start.balanced();
-        let request = Request {
-            pages,
-            align,
-            first,
-            last,
-        };
+        let request = Request::of(pages, align, first, last);
         self.by_start.first(request, steps).map(|hole| hole.span())
     }
 
@@ -336,12 +303,7 @@ impl Holes {
     {
         // (its levels bound the steps)
         self.by_start.balanced();
-        let request = Request {
-            pages,
-            align,
-            first,
-            last,
-        };
+        let request = Request::of(pages, align, first, last);
         self.by_start
             .highest(request, steps)
             .map(|hole| hole.span())
@@ -356,20 +318,12 @@ impl Holes {
         ensures { result ≡ chosen_hole mode self.now.holes request.pages request.align request.first request.last }
     {
         let mut steps = Steps::<L>::new(blank);
-        match mode {
-            Mode::Best => self
-                .by_length
-                .shortest(request, &mut steps)
-                .map(|hole| hole.span()),
-            Mode::Low => self
-                .by_start
-                .first(request, &mut steps)
-                .map(|hole| hole.span()),
-            Mode::High => self
-                .by_start
-                .highest(request, &mut steps)
-                .map(|hole| hole.span()),
-        }
+        let chosen = match mode {
+            Mode::Best => self.by_length.shortest(request, &mut steps),
+            Mode::Low => self.by_start.first(request, &mut steps),
+            Mode::High => self.by_start.highest(request, &mut steps),
+        };
+        chosen.map(|hole| hole.span())
     }
 }
 

@@ -4,7 +4,6 @@
 mod hole;
 mod holes;
 mod lean;
-mod lengths;
 mod order;
 mod request;
 mod search;

@@ -16,6 +16,17 @@ pub struct Request {
 }
 
 impl Request {
+    pub(crate) fn of(pages: u32, align: u32, first: u32, last: u32) -> Request
+        ensures { result ≡ record { pages = pages; align = align; first = first; last = last } }
+    {
+        Request {
+            pages,
+            align,
+            first,
+            last,
+        }
+    }
+
     pub(crate) fn fits(self, mode: Mode, hole: Hole) -> bool
         requires { 1 ≤ self.align }
         ensures { result ≡ fits mode self hole }

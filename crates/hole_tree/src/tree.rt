@@ -49,6 +49,7 @@ pub struct Node<S: Side> {
 }
 
 /// A node that was taken out.
+#[derive(Drop)]
 pub struct Taken<S: Side> {
     pub node: Box<Node<S>>,
     /// The tree has lost a level.
@@ -190,7 +191,7 @@ impl<S: Side> Tree<S> {
         first.of_left = node.of_left;
         first.of_right = first.right.kept_without(node.of_right, first.hole.pages());
         node.clear();
-        let lower = lower && lost_right(&mut first);
+        let lower = lower && !grown_left(&mut first);
         *self = Tree::of(first);
         Taken { node, lower }
     }
@@ -210,7 +211,7 @@ impl<S: Side> Tree<S> {
         if !node.left.is_empty() {
             let Taken { node: first, lower } = node.left.take_first();
             node.of_left = node.left.kept_without(node.of_left, first.hole.pages());
-            let lower = lower && lost_left(node);
+            let lower = lower && !grown_right(node);
             return Taken { node: first, lower };
         }
         let Top::Full(mut node) = mem::replace(&mut self.top, Top::Empty) else {
@@ -294,13 +295,13 @@ impl<S: Sort> Tree<S> {
         if S::order().is_before(*sought, node.hole) {
             let Taken { node: found, lower } = node.left.take(sought);
             node.of_left = node.left.kept_without(node.of_left, found.hole.pages());
-            let lower = lower && lost_left(node);
+            let lower = lower && !grown_right(node);
             return Taken { node: found, lower };
         }
         if S::order().is_before(node.hole, *sought) {
             let Taken { node: found, lower } = node.right.take(sought);
             node.of_right = node.right.kept_without(node.of_right, found.hole.pages());
-            let lower = lower && lost_right(node);
+            let lower = lower && !grown_left(node);
             return Taken { node: found, lower };
         }
         let Top::Full(found) = mem::replace(&mut self.top, Top::Empty) else {
@@ -387,7 +388,8 @@ impl<S: Side> Node<S> {
     }
 }
 
-/// Mends a node whose left side has grown by a level, and says whether the node has grown too.
+/// Mends a node whose left side has grown by a level, and says whether the node has grown too. It mends one whose right
+/// side has lost a level as well: that node has lost one where this says that it hasn't grown.
 fn grown_left<S: Side>(node: &mut Box<Node<S>>) -> bool
     requires grown { Leans node.old.value.lean node.old.value.left.height (node.old.value.right.height + 1) }
     requires sides { HasSides S.keeps node.old.value }
@@ -426,48 +428,6 @@ fn grown_right<S: Side>(node: &mut Box<Node<S>>) -> bool
             false
         }
         Lean::Right => !turn_left(node),
-    }
-}
-
-/// Mends a node whose left side has lost a level, and says whether the node has lost one too.
-fn lost_left<S: Side>(node: &mut Box<Node<S>>) -> bool
-    requires lost { Leans node.old.value.lean (node.old.value.left.height + 1) node.old.value.right.height }
-    requires sides { HasSides S.keeps node.old.value }
-    ensures spans { spans_of node.new.value ≡ spans_of node.old.value }
-    ensures height { height_of node.new.value + (if result then 1 else 0) ≡ max (node.old.value.left.height + 1) node.old.value.right.height + 1 }
-    ensures sound { IsSound S.keeps node.new.value }
-{
-    match node.lean {
-        Lean::Even => {
-            node.lean = Lean::Right;
-            false
-        }
-        Lean::Left => {
-            node.lean = Lean::Even;
-            true
-        }
-        Lean::Right => turn_left(node),
-    }
-}
-
-/// The same, where the right side has lost one.
-fn lost_right<S: Side>(node: &mut Box<Node<S>>) -> bool
-    requires lost { Leans node.old.value.lean node.old.value.left.height (node.old.value.right.height + 1) }
-    requires sides { HasSides S.keeps node.old.value }
-    ensures spans { spans_of node.new.value ≡ spans_of node.old.value }
-    ensures height { height_of node.new.value + (if result then 1 else 0) ≡ max node.old.value.left.height (node.old.value.right.height + 1) + 1 }
-    ensures sound { IsSound S.keeps node.new.value }
-{
-    match node.lean {
-        Lean::Even => {
-            node.lean = Lean::Left;
-            false
-        }
-        Lean::Right => {
-            node.lean = Lean::Even;
-            true
-        }
-        Lean::Left => turn_right(node),
     }
 }
 

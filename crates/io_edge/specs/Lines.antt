@@ -1,7 +1,7 @@
 -- Pieces that are lines.
 use Rattle.std.specs.Prelude.{ℕ, Bool, false, List, [], ◌∷◌, not, ◌==◌, ◌&&◌}
 
--- the piece ends with a line feed, and has no other
+-- whether the piece ends with a line feed, and has no other
 abbrev pub is_line : List ℕ → Bool
 is_line [] = false
 is_line (b ∷ []) = b == 10

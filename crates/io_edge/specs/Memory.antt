@@ -1,11 +1,11 @@
--- What is seen of a source and a sink in memory, and what their calls do.
+-- What a source and a sink in memory are seen as, and what their calls do.
 use Rattle.std.specs.Prelude.{ℕ, ◌+◌, ◌-◌, ◌==◌, ◌||◌, Bool, min, List, ◌++◌, length, take, drop, Result, Ok, Err, if◌then◌else◌}
 use Rattle.std.specs.List.{list_any}
 use Rattle.io_edge.specs.declared.Failed.{Failed}
 use Rattle.io_edge.specs.Faults.{one_more}
 
--- A source in memory: the bytes left, the most that one call moves, the numbers of the calls that fail, and how many calls there were
--- and how many of them failed.
+-- A source in memory: the bytes that are left, the most that one call moves, the numbers of the calls that fail, how many
+-- calls there were, and how many of them failed.
 pub record Feed : Type 0 where
   pub left : List ℕ
   pub chunk : ℕ
@@ -13,7 +13,7 @@ pub record Feed : Type 0 where
   pub calls : ℕ
   pub faults : ℕ
 
--- A sink in memory: the bytes written, how many there is room for in all, and the rest as for a source.
+-- A sink in memory: the bytes that were written, for how many there is room in all, and the rest as for a source.
 pub record Drain : Type 0 where
   pub written : List ℕ
   pub room : ℕ
@@ -22,11 +22,11 @@ pub record Drain : Type 0 where
   pub calls : ℕ
   pub faults : ℕ
 
--- whether the call after so many is one that fails
+-- whether the next call fails, after this number of calls
 abbrev pub is_due : List ℕ → ℕ → Bool
 is_due fails calls = list_any (λ n. n == calls + 1) fails
 
--- how many bytes a call moves into a buffer of this length
+-- the number of bytes that a call moves into a buffer of this length
 abbrev pub read_len : Feed → ℕ → ℕ
 read_len s room = min s.chunk (min room (length s.left))
 
@@ -34,7 +34,7 @@ read_len s room = min s.chunk (min room (length s.left))
 abbrev pub read_fails : Feed → Bool
 read_fails s = is_due s.fails s.calls
 
--- what a call answers
+-- the answer of a call
 abbrev pub read_answer : Feed → ℕ → Result ℕ Failed
 read_answer s room = if read_fails s then Err (record {}) else Ok (read_len s room)
 
@@ -49,7 +49,7 @@ after_read s room =
 abbrev pub room_left : Drain → ℕ
 room_left s = s.room - length s.written
 
--- how many bytes of a piece of this length a call moves
+-- the number of bytes that a call moves from a piece of this length
 abbrev pub write_len : Drain → ℕ → ℕ
 write_len s len = min s.chunk (min len (room_left s))
 
@@ -57,7 +57,7 @@ write_len s len = min s.chunk (min len (room_left s))
 abbrev pub write_fails : Drain → Bool
 write_fails s = is_due s.fails s.calls || (room_left s == 0)
 
--- what a call answers
+-- the answer of a call
 abbrev pub write_answer : Drain → ℕ → Result ℕ Failed
 write_answer s len = if write_fails s then Err (record {}) else Ok (write_len s len)
 

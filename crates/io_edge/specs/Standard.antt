@@ -1,4 +1,4 @@
--- What is seen of a source or a sink over a reader or a writer.
+-- What a source over a reader and a sink over a writer are seen as.
 use Rattle.std.specs.Prelude.{ℕ}
 use Rattle.io_edge.specs.declared.standard.StdSource.{StdSource}
 use Rattle.io_edge.specs.declared.standard.StdSink.{StdSink}

@@ -1,4 +1,4 @@
-//! Where bytes come in and go out: sources and sinks that may fail, and count how often they did.
+//! Sources from which bytes are read and sinks to which they are written. Both may fail, and count how often they did.
 #![tactic(auto)]
 
 ghost use Rattle.std.specs.Prelude.{◌≡◌, ℕ, List, ◌<◌, ◌≤◌, ◌↔◌, [], Option, length, take, IfOk, IfSome, IsTrue, MatchResult};
@@ -14,19 +14,19 @@ pub use memory::{MemSink, MemSource};
 pub use standard::{StdSink, StdSource};
 pub use whole::{ReadFault, read_all, write_all};
 
-/// A read or a write failed.
+/// The error of a read or a write that failed.
 #[derive(Clone, Copy, Debug, PartialEq, Eq)]
 pub struct Failed;
 
-/// Where bytes come from.
+/// A source of bytes.
 pub trait Source {
-    /// The bytes left, where they are told.
+    /// The bytes that are left, if the source tells them.
     ghost left: { Self → Option (List ℕ) };
 
-    /// How many calls have failed so far, counted up to `u64::MAX`.
+    /// The number of calls that have failed so far, counted up to `u64::MAX`.
     ghost faults: { Self → ℕ };
 
-    /// Moves the first bytes left into the buffer, and answers how many. 0 is the end of input.
+    /// Moves the first bytes that are left into the buffer, and returns how many. 0 is the end of input.
     fn read(&mut self, buffer: &mut [u8]) -> Result<usize, Failed>
         requires { 0 < length buffer.old }
         ensures bound { IfOk result (λ n. n ≤ length buffer.new) }
@@ -37,18 +37,19 @@ pub trait Source {
         ensures faults { faults self.new ≡ faults_after result (faults self.old) };
 }
 
-/// Where bytes go.
+/// A sink of bytes.
 pub trait Sink {
-    /// The bytes written, where they are told.
+    /// The bytes that were written, if the sink tells them.
     ghost written: { Self → Option (List ℕ) };
 
-    /// How many calls have failed so far, counted up to `u64::MAX`.
+    /// The number of calls that have failed so far, counted up to `u64::MAX`.
     ghost faults: { Self → ℕ };
 
-    /// How many calls so far were given a piece that is no line, as a sink may count them: only such a call changes it.
+    /// The number of calls so far that were given a piece that isn't a line, as a sink may count them: only such a call
+    /// changes it.
     ghost broken: { Self → ℕ };
 
-    /// Appends the first bytes of the piece, and answers how many, which is never 0.
+    /// Appends the first bytes of the piece, and returns how many, which is never 0.
     fn write(&mut self, piece: &[u8]) -> Result<usize, Failed>
         requires { 0 < length piece.now }
         ensures some { IfOk result (λ n. 1 ≤ n) }

@@ -8,7 +8,7 @@ use std::alloc::Global;
 use std::marker::Model;
 use ttm_base::NoMemory;
 
-/// How much a call moves, which calls fail, and how many there were.
+/// A plan of the calls: how many bytes a call moves, which calls fail, and how many calls there were.
 #[derive(Drop)]
 struct Plan {
     chunk: usize,
@@ -29,7 +29,7 @@ impl Plan {
         }
     }
 
-    /// Counts a call, and says whether it is one that fails.
+    /// Counts a call, and returns whether it is one that fails.
     fn count_call(&mut self) -> bool
         ensures due { result ≡ is_due self.old.fails.items self.old.calls }
         ensures after { self.new ≡ record self.old { calls = one_more self.old.calls } }
@@ -39,7 +39,7 @@ impl Plan {
         self.fails.iter().any(|n| u128::from(*n) == number)
     }
 
-    /// Counts a fault.
+    /// Counts a failed call, and returns the error.
     fn count_fault(&mut self) -> Failed
         ensures { self.new ≡ record self.old { faults = one_more self.old.faults } }
     {
@@ -48,7 +48,7 @@ impl Plan {
     }
 }
 
-/// Copies a front of `from` over the front of `to`, at most so many bytes of it, and answers how many.
+/// Copies the first bytes of `from` over the first bytes of `to`, at most `most` of them, and returns how many.
 fn move_front(from: &[u8], to: &mut [u8], most: usize) -> usize
     ensures count { result ≡ min most (min (length to.old) (length from.now)) }
     ensures moved { to.new ≡ take result from.now ++ drop result to.old }
@@ -58,7 +58,7 @@ fn move_front(from: &[u8], to: &mut [u8], most: usize) -> usize
     n
 }
 
-/// A source of bytes in memory. It tells its bytes.
+/// A source of bytes in memory, which tells its bytes.
 #[derive(Drop)]
 pub struct MemSource {
     bytes: Vec<u8>,
@@ -78,8 +78,8 @@ impl Model for MemSource {
 }
 
 impl MemSource {
-    /// A source of these bytes. A call moves at most `chunk` of them. The calls with the numbers in `fails`, counted from
-    /// 1, fail, and no others.
+    /// Returns a source of `bytes`. A call moves at most `chunk` of them. The calls with the numbers in `fails`, counted
+    /// from 1, fail, and no others.
     pub fn new(bytes: Vec<u8>, chunk: usize, fails: Vec<u64>) -> MemSource
         requires { 1 ≤ chunk }
         ensures { result ≡ record { left = bytes.items; chunk = chunk; fails = fails.items; calls = 0; faults = 0 } }
@@ -107,7 +107,7 @@ impl Source for MemSource {
         ensures end { IfOk result (λ n. IfSome (Some self.old.left) (λ bytes. (n ≡ 0) ↔ (bytes ≡ []))) }
         ensures faults { self.new.faults ≡ faults_after result self.old.faults }
 
-        // What it answers, and what it leaves, exactly.
+        // Exactly what the call returns, and what it leaves.
         ensures answer { result ≡ read_answer self.old (length buffer.old) }
         ensures after { self.new ≡ after_read self.old (length buffer.old) }
     {
@@ -120,7 +120,7 @@ impl Source for MemSource {
     }
 }
 
-/// A sink in memory. It tells its bytes.
+/// A sink in memory, which tells its bytes.
 #[derive(Drop)]
 pub struct MemSink {
     bytes: Vec<u8>,
@@ -140,8 +140,8 @@ impl Model for MemSink {
 }
 
 impl MemSink {
-    /// A sink with memory for `room` bytes. A call moves at most `chunk` bytes. The calls with the numbers in `fails`,
-    /// counted from 1, fail, and those with no room left.
+    /// Returns a sink with memory for `room` bytes. A call moves at most `chunk` bytes. The calls with the numbers in
+    /// `fails`, counted from 1, fail, and those with no room left.
     pub fn new(
         alloc: Global,
         room: usize,
@@ -159,7 +159,7 @@ impl MemSink {
         })
     }
 
-    /// What was written.
+    /// Lends the bytes that were written.
     pub fn bytes(&self) -> &[u8]
         ensures { result.now ≡ self.now.written }
     {
@@ -183,7 +183,7 @@ impl Sink for MemSink {
             (λ _. Some self.new.written ≡ Some self.old.written) }
         ensures faults { self.new.faults ≡ faults_after result self.old.faults }
 
-        // What it answers, and what it leaves, exactly.
+        // Exactly what the call returns, and what it leaves.
         ensures answer { result ≡ write_answer self.old (length piece.now) }
         ensures after { self.new ≡ after_write self.old piece.now }
     {

@@ -6,7 +6,7 @@ ghost use Rattle.io_edge.specs.Standard.{sink_faults, sink_writer, source_faults
 use crate::{Failed, Sink, Source};
 use std::io::{Read, Write};
 
-/// Standard input, or another reader, as a source. It tells no bytes.
+/// A source that reads standard input, or another reader. It doesn't tell its bytes.
 #[derive(Drop)]
 pub struct StdSource<R> {
     reader: R,
@@ -14,7 +14,7 @@ pub struct StdSource<R> {
 }
 
 impl<R> StdSource<R> {
-    /// A source that has not failed so far.
+    /// Returns a source that has not failed so far.
     pub fn new(reader: R) -> StdSource<R>
         ensures reader { source_reader result ≡ reader }
         ensures faults { source_faults result ≡ 0 }
@@ -44,8 +44,8 @@ impl<R: Read> Source for StdSource<R> {
     }
 }
 
-/// Standard output, or another writer, as a sink. It tells no bytes. It flushes each piece, and a flush that fails is a
-/// write that fails. So is a write that takes nothing.
+/// A sink that writes to standard output, or to another writer. It doesn't tell its bytes. It flushes each piece, and a
+/// flush that fails is a write that fails. So is a write that takes nothing.
 #[derive(Drop)]
 pub struct StdSink<W> {
     writer: W,
@@ -53,7 +53,7 @@ pub struct StdSink<W> {
 }
 
 impl<W> StdSink<W> {
-    /// A sink that has not failed so far.
+    /// Returns a sink that has not failed so far.
     pub fn new(writer: W) -> StdSink<W>
         ensures writer { sink_writer result ≡ writer }
         ensures faults { sink_faults result ≡ 0 }
@@ -62,7 +62,8 @@ impl<W> StdSink<W> {
     }
 }
 
-/// Writes a front of the piece, and flushes it.
+/// Writes the first bytes of the piece, flushes them, and returns how many they are. None means that the write or the flush
+/// failed, or that the write took nothing.
 fn write_flushed<W: Write>(writer: &mut W, piece: &[u8]) -> Option<usize>
     ensures some { IfSome result (λ n. 1 ≤ n) }
     ensures bound { IfSome result (λ n. n ≤ length piece.now) }

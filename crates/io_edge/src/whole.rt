@@ -9,7 +9,7 @@ ghost use Rattle.io_edge.specs.Written.{Writes};
 use crate::{Failed, Sink, Source};
 use std::alloc::{AllocError, Global};
 
-/// Why not all was read: the source failed, it has too many bytes, or there is no memory for them.
+/// The reason why not all bytes were read: the source failed, it has too many bytes, or there is no memory for them.
 #[derive(Clone, Copy, Debug, PartialEq, Eq)]
 pub enum ReadFault {
     Failed,
@@ -37,11 +37,11 @@ impl From<AllocError> for ReadFault {
     }
 }
 
-/// How many bytes one read asks for.
+/// The number of bytes for which one read asks.
 const PIECE: usize = 4096;
 
-/// Reads to the end of input: all bytes left, at most `limit`. It reads one byte more before it answers that they are too
-/// many.
+/// Reads to the end of input: all bytes that are left, at most `limit`. It reads one byte more before it returns that they
+/// are too many.
 pub fn read_all<S: Source>(
     alloc: Global,
     source: &mut S,
@@ -52,7 +52,7 @@ pub fn read_all<S: Source>(
     ensures end { OnOk result (S.left source.new ≡ option_map (λ _. []) (S.left source.old)) }
     ensures short { IfOk result (λ bytes. length bytes.items ≤ limit) }
 
-    // After a refusal a front of the bytes left was taken.
+    // After an error a prefix of the bytes that were left has been taken.
     ensures taken { IfErr result (λ fault. (front : List ℕ) × TookBefore fault limit (length front)
         × (S.left source.old ≡ prepend_known front (S.left source.new))) }
     ensures faults { S.faults source.new ≡ faults_after_all result (S.faults source.old) }
@@ -70,12 +70,12 @@ pub fn read_all<S: Source>(
     Err(ReadFault::TooLong)
 }
 
-/// Writes all the bytes. After a failure a front of them was written, and not all. It takes no memory.
+/// Writes all bytes. After an error a prefix of them has been written, and not all. It takes no memory.
 pub fn write_all<K: Sink>(sink: &mut K, bytes: &[u8]) -> Result<(), Failed>
     ensures text { Writes result (K.written sink.old) (K.written sink.new) bytes.now }
     ensures faults { K.faults sink.new ≡ faults_after result (K.faults sink.old) }
 
-    // A line goes out as a line: each piece that the sink is given is an end of it.
+    // A line goes out as a line: each piece that is given to the sink is a suffix of it.
     ensures lines { IsTrue (is_line bytes.now) → K.broken sink.new ≡ K.broken sink.old }
 {
     let mut at = 0;

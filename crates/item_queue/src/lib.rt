@@ -1,4 +1,5 @@
-//! A queue: items join it at its end and leave it at its front, and stand side by side in memory, so that they are lent as a slice.
+//! A queue: items join it at its end and leave it at its front, and are side by side in memory, so that they are lent as a
+//! slice.
 #![tactic(auto)]
 
 ghost use Rattle.std.specs.Prelude.{◌≡◌, ◌+◌, ◌<◌, ◌≤◌, ◌∷◌, ◌++◌, [], OnOk, OnErr, Some, drop, length, slice_get, take};
@@ -7,15 +8,15 @@ use std::alloc::Global;
 use std::marker::Model;
 use ttm_base::NoMemory;
 
-/// A queue of items, seen as a list. How much room it has can't be seen.
+/// A queue of items, seen as a list. Its capacity can't be seen.
 ///
 /// Items that have left stay stored in front of the others, until they are more than those. Then they are dropped together,
-/// and the others move up: over all calls, each item that has left costs one drop and one move at most. At least half of what
-/// is stored is in the queue.
+/// and the others move up: over all calls, each item that has left costs at most one drop and one move. At least half of
+/// what is stored is in the queue.
 #[derive(Drop)]
 pub struct ItemQueue<T> {
     stored: Vec<T>,
-    /// How many of those that are stored have left.
+    /// The number of stored items that have left the queue.
     left: usize,
 }
 
@@ -29,7 +30,7 @@ impl<T> Model for ItemQueue<T> {
     ghost invariant = { λ s. s.left + s.left ≤ length s.stored.items };
 }
 
-/// Drops the items that have left, where they are more than the others. Says how many are still stored.
+/// Drops the items that have left, if they are more than the others. Returns how many of them are still stored.
 fn settle<T>(stored: &mut Vec<T>, left: usize) -> usize
 where
     T: Drop,
@@ -45,7 +46,7 @@ where
 }
 
 impl<T> ItemQueue<T> {
-    /// The empty queue.
+    /// Returns the empty queue.
     pub fn new(alloc: Global) -> ItemQueue<T>
         ensures { result ≡ [] }
     {
@@ -55,7 +56,7 @@ impl<T> ItemQueue<T> {
         }
     }
 
-    /// Puts an item at the end.
+    /// Pushes `item` at the end. Where memory is refused the queue stays as it was.
     pub fn push(&mut self, item: T) -> Result<(), NoMemory>
     where
         T: Drop,
@@ -66,21 +67,21 @@ impl<T> ItemQueue<T> {
         Ok(())
     }
 
-    /// The number of items.
+    /// Returns the number of items.
     pub fn len(&self) -> usize
         ensures { result ≡ length self.now }
     {
         self.stored.len() - self.left
     }
 
-    /// The items, in order.
+    /// Lends the items as a slice, in order.
     pub fn items(&self) -> &[T]
         ensures { result.now ≡ self.now }
     {
         &self.stored[self.left..]
     }
 
-    /// Lends the item at a position.
+    /// Lends the item at `index`.
     pub fn get(&self, index: usize) -> &T
         requires { index < length self.now }
         ensures { slice_get self.now index ≡ Some result.now }
@@ -88,7 +89,7 @@ impl<T> ItemQueue<T> {
         &self.items()[index]
     }
 
-    /// The first item leaves. Takes constant time, amortized, and no memory; the item is dropped now or later.
+    /// Removes the first item. Takes constant time, amortized, and no memory; the item is dropped now or later.
     pub fn drop_first(&mut self)
     where
         T: Drop,
@@ -98,7 +99,7 @@ impl<T> ItemQueue<T> {
         self.left = settle(&mut self.stored, self.left + 1);
     }
 
-    /// Keeps so many items from the front, and drops the others.
+    /// Keeps the first `len` items, and drops the others.
     pub fn truncate(&mut self, len: usize)
     where
         T: Drop,

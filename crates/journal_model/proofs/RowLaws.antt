@@ -41,7 +41,7 @@ drop-front : {X : Type 0} (xs ys : List X) → drop (length xs) (xs ++ ys) ≡ y
 drop-front [] ys = refl
 drop-front (x ∷ xs) ys = drop-front xs ys
 
--- those behind the first k of a run
+-- those after the first k of a run
 run_behind : (ctx first k n : ℕ) → drop k (jobs_of_run (record { ctx = ctx; first = first; count = k + n })) ≡ jobs_of_run (record { ctx = ctx; first = first + k; count = n })
 run_behind ctx first k n =
     ap (drop k) (joined_jobs ctx first k n)
@@ -144,7 +144,7 @@ any_later : (p : Job → Bool) (jobs : List Job) (n k : ℕ) → list_any p (dro
 any_later p jobs n zero h = subst (λ m. list_any p (drop m jobs) ≡ false) (let e : n ≡ n + zero = omega arith in e) h
 any_later p jobs n (suc k) h = subst (λ m. list_any p (drop m jobs) ≡ false) (let e : suc (n + k) ≡ n + suc k = omega arith in e) (any_of_rest p jobs (n + k) (any_later p jobs n k h))
 
--- none of those behind the first k of the row has the name
+-- none of those after the first k of the row has the name
 pub none_behind : (jobs : List Job) (row : JobRun) (id : JobId) (k end : ℕ) → IsRow jobs row → k ≤ row.count → length jobs - (row.count - k) ≤ end
     → is_in id (behind k row) ≡ false → list_any (λ j. same_job id j.id) (drop end jobs) ≡ false
 none_behind jobs row id k end r l m h =
@@ -167,7 +167,7 @@ row_done f jobs row id k l h r = row_kept f jobs (behind k row) id (none_in id r
 
 -- ---- jobs between two positions
 
--- a look may leave out those behind, of which none passes
+-- a look may leave out those after, of which none passes
 any_between : (p : Job → Bool) (jobs : List Job) (n m : ℕ) → n ≤ m → list_any p (drop m jobs) ≡ false → list_any p (slice_range jobs n m) ≡ list_any p (drop n jobs)
 any_between p jobs n m l h = let e = drop_split jobs n m l in grind (arith, common_steps)
 

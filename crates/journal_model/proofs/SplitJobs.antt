@@ -1,4 +1,4 @@
--- Closed jobs stay closed, and what is looked for behind them.
+-- Closed jobs stay closed, and what is looked for after them.
 use Rattle.std.proofs.Common.{◌≡◌, ℕ, zero, suc, ◌+◌, ◌<◌, ◌≤◌, Bool, true, false, List, [], ◌∷◌, ◌++◌, length, take, drop, ◌-◌, Some, None, refl, ap, ap₂, sym, subst, arith, ◌∙◌}
 use Rattle.std.proofs.lemmas.Grind.{common_steps}
 use Rattle.std.proofs.lemmas.Bool.Decides.{nat_tests}
@@ -97,7 +97,7 @@ apart_pushed (j ∷ js) pending job n h =
     let swapped = same_swapped j.id job.id in
     grind (arith, common_steps)
 
--- a job with a name of its own comes behind them
+-- a job with a name of its own follows them
 pub split_pushed : (jobs : List Job) (n : ℕ) (job : Job) → IsSplit jobs n → list_any (λ j. same_job job.id j.id) (take n jobs) ≡ false → IsSplit (jobs ++ job ∷ []) n
 split_pushed jobs n job s h =
     let within = s.within in
@@ -115,7 +115,7 @@ apart_front (j ∷ js) jobs n m h =
     let here = any_of_front (λ k. same_job j.id k.id) jobs n m (grind (arith, common_steps)) in
     grind (arith, common_steps)
 
--- jobs behind them are taken out
+-- jobs after them are taken out
 pub split_front : (jobs : List Job) (n m : ℕ) → IsSplit jobs n → n ≤ m → IsSplit (take m jobs) n
 split_front jobs n m s l =
     let within = s.within in
@@ -228,7 +228,7 @@ named_closed jobs n id e =
     let joined : jobs ≡ take n jobs ++ drop n jobs = grind (arith, common_steps) in
     subst (λ all. find (λ j. same_job id j.id) all ≡ find (λ j. same_job id j.id) (take n jobs)) (sym joined) (find_before (λ j. same_job id j.id) (take n jobs) (drop n jobs) e)
 
--- the jobs behind the closed ones are the pending ones
+-- the jobs after the closed ones are the pending ones
 pub pending_of : (jobs : List Job) (n : ℕ) → IsSplit jobs n → ArePending jobs (drop n jobs)
 pending_of jobs n s = record { closed = take n jobs; joined = grind (arith, common_steps); done = s.parts.done }
 
@@ -275,7 +275,7 @@ bounded_then old new (j ∷ js) job others own b =
     let rest = bounded_then old new js job others own (grind (arith, common_steps)) in
     grind (arith, common_steps)
 
--- a job comes behind them
+-- a job follows them
 pub bounded_pushed : (old new : List ℕ) (jobs : List Job) (job : Job) → ((i : JobId) → is_bounded old i ≡ true → is_bounded new i ≡ true) → is_bounded new job.id ≡ true → AreBounded old jobs → AreBounded new (jobs ++ job ∷ [])
 bounded_pushed old new jobs job others own b = record { all = bounded_then old new jobs job others own b.all }
 
@@ -326,6 +326,6 @@ all_behind p (x ∷ xs) (suc n) h =
     let rest = all_behind p xs n (grind (arith, common_steps)) in
     grind (arith, common_steps)
 
--- so one more packet can be counted where it can among those behind
+-- so one more packet can be counted where it can among those after
 pub left_behind : (jobs : List Job) (n : ℕ) (id : JobId) → list_any (λ j. same_job id j.id) (take n jobs) ≡ false → list_all (has_packets_left id) (drop n jobs) ≡ list_all (has_packets_left id) jobs
 left_behind jobs n id h = all_behind (has_packets_left id) jobs n (others_left (take n jobs) id h)

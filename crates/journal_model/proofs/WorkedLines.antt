@@ -110,7 +110,7 @@ both_flags = refl
 old_line_in_version_two : first_fault (codes "ttm 2\nvram range 0\ntt 0\nframes 2\nswap 0\nengines 0\n" ++ line_of_a) ≡ Some (7, 4)
 old_line_in_version_two = refl
 
--- flags may stand behind SYSTEM, a reach may not
+-- flags may follow SYSTEM, a reach may not
 flags_in_system : first_fault (six_lines ++ codes "buffer a 2 prio 1 group - align 1 want sys+top busy sys+contig\nend\n") ≡ None
 flags_in_system = refl
 

@@ -2,3 +2,4 @@
 pub mod EntryText
 pub mod ReportText
 pub mod Verdict
+pub mod VerdictOf

@@ -14,7 +14,7 @@ pub struct FenceRun {
     pub usage: Usage,
 }
 
-/// Two runs as one, where the second goes on from the first.
+/// Joins two runs to one if the second goes on from the first, else returns `None`.
 fn joined_fences(run: FenceRun, next: FenceRun) -> Option<FenceRun>
     requires { IsTrue (is_whole next) }
     ensures fences { IfSome result (λ both. fences_of_run both ≡ fences_of_run run ++ fences_of_run next) }
@@ -47,7 +47,7 @@ impl Model for Fences {
 }
 
 impl Fences {
-    /// No fences.
+    /// Makes an empty list of fences.
     pub fn new(alloc: Global) -> Fences
         ensures { result ≡ [] }
     {
@@ -56,7 +56,7 @@ impl Fences {
         }
     }
 
-    /// The runs, in order.
+    /// Returns the runs, in order.
     pub fn runs(&self) -> &[FenceRun]
         ensures fences { flat_map fences_of_run result.now ≡ self.now }
         ensures whole { IsTrue (list_all is_whole result.now) }
@@ -64,11 +64,11 @@ impl Fences {
         self.runs.items()
     }
 
-    /// Puts a fence at the end.
+    /// Adds `fence` at the end.
     ///
     /// # Errors
     ///
-    /// Want of memory; nothing is changed.
+    /// Lack of memory; nothing is changed.
     pub fn push(&mut self, fence: Fence) -> Result<(), NoMemory>
         ensures ok { OnOk result (self.new ≡ self.old ++ fence ∷ []) }
         ensures err { OnErr result (self.new ≡ self.old) }
@@ -91,7 +91,7 @@ impl Fences {
         self.runs.push(next)
     }
 
-    /// Takes the last fence out, if there is one.
+    /// Removes the last fence, if there is one.
     pub fn drop_last(&mut self)
         ensures { self.new ≡ take (length self.old - 1) self.old }
     {

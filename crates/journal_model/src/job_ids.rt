@@ -10,13 +10,13 @@ use ttm_base::{ItemList, JobId, NoMemory};
 #[derive(Clone, Copy)]
 pub struct JobRun {
     pub ctx: u32,
-    /// The least number.
+    /// The least number of the jobs.
     pub first: u64,
-    /// How many jobs they are.
+    /// The number of jobs.
     pub count: u64,
 }
 
-/// Two runs as one, where the second goes on from the first.
+/// Joins two runs to one if the second goes on from the first, else returns `None`.
 pub fn joined(run: JobRun, next: JobRun) -> Option<JobRun>
     requires { IsTrue (fits next) }
     ensures jobs { IfSome result (λ both. jobs_of_run both ≡ jobs_of_run run ++ jobs_of_run next) }
@@ -50,7 +50,7 @@ impl Model for JobIds {
 }
 
 impl JobIds {
-    /// No ids.
+    /// Makes an empty list of ids.
     pub fn new(alloc: Global) -> JobIds
         ensures { result ≡ [] }
     {
@@ -59,7 +59,7 @@ impl JobIds {
         }
     }
 
-    /// The runs, in order; each of their numbers fits into 64 bits.
+    /// Returns the runs, in order. Each of their numbers fits into 64 bits.
     pub fn runs(&self) -> &[JobRun]
         ensures jobs { flat_map jobs_of_run result.now ≡ self.now }
         ensures fit { IsTrue (list_all fits result.now) }
@@ -67,11 +67,11 @@ impl JobIds {
         self.runs.items()
     }
 
-    /// Puts a run at the end.
+    /// Adds the jobs of `run` at the end.
     ///
     /// # Errors
     ///
-    /// Want of memory; nothing is changed.
+    /// Lack of memory; nothing is changed.
     pub fn push_run(&mut self, run: JobRun) -> Result<(), NoMemory>
         requires { IsTrue (fits run) }
         ensures ok { OnOk result (self.new ≡ self.old ++ jobs_of_run run) }
@@ -89,11 +89,11 @@ impl JobIds {
         self.runs.push(run)
     }
 
-    /// Puts an id at the end.
+    /// Adds `id` at the end.
     ///
     /// # Errors
     ///
-    /// Want of memory; nothing is changed.
+    /// Lack of memory; nothing is changed.
     pub fn push(&mut self, id: JobId) -> Result<(), NoMemory>
         ensures ok { OnOk result (self.new ≡ self.old ++ id ∷ []) }
         ensures err { OnErr result (self.new ≡ self.old) }
@@ -105,11 +105,11 @@ impl JobIds {
         })
     }
 
-    /// Puts other ids at the end.
+    /// Adds the ids of `more` at the end.
     ///
     /// # Errors
     ///
-    /// Want of memory; some may stand there already.
+    /// Lack of memory; some of them may have been added.
     pub fn append(&mut self, more: &JobIds) -> Result<(), NoMemory>
         ensures { OnOk result (self.new ≡ self.old ++ more.now) }
     {

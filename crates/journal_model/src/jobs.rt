@@ -10,9 +10,9 @@ use ttm_base::ItemList;
 /// The contexts of jobs: 0, that of the moves, and those of the eight engines that there can be.
 const CONTEXTS: usize = 9;
 
-/// Jobs in order of emission. Of those at the front that are done it keeps the number, so that who looks for a job that isn't
-/// done doesn't pass them each time; of each context the greatest number, so that one with a new name isn't looked for; and the last jobs, as
-/// far as none of them is done and their numbers follow one another, so that they are found by their numbers.
+/// Jobs in order of emission. It keeps the number of those at the front that are done, so that a search for a job that isn't done doesn't
+/// pass them each time; for each context the greatest number, so that a job with a new name isn't looked for; and the last jobs, as far as
+/// none of them is done and their numbers follow one another, so that they are found by their numbers.
 #[derive(Drop)]
 pub struct Jobs {
     all: ItemList<Job>,

@@ -45,7 +45,7 @@ LegalJobsAreInOrder = ForStates AreInOrder
 abbrev pub touches : Core → Page → Job → Bool
 touches c page j = list_any (packet_touches (aperture c) page) (remaining j)
 
--- or writes it
+-- a packet of the job that hasn't run writes the page
 abbrev pub writes_to : Core → Page → Job → Bool
 writes_to c page j = list_any (packet_writes (aperture c) page) (remaining j)
 
@@ -65,7 +65,7 @@ pub record IsCovered (jobs : List Job) (is : List JobId) (i : Job) : Type 0 wher
 abbrev pub is_job_of : Buffer → (changes : Bool) → Job → Bool
 is_job_of x changes i = is_among (if changes then jobs_before_read x else jobs_before_write x) i
 
--- everyone waits for the fence
+-- each use of the buffer waits for the fence
 abbrev pub is_kernel : Fence → Bool
 is_kernel f = elim f.usage [ usage.Kernel ↦ true | usage.Write ↦ false | usage.Read ↦ false ]
 
@@ -114,7 +114,7 @@ LegalFreePagesAreFenced = ForStates FreePagesAreFenced
 
 -- ---- conflicts
 
--- both touch the page by packets that haven't run, and one of them writes it
+-- both jobs touch the page by packets that haven't run, and one of them writes it
 abbrev pub conflict : Core → Page → Job → Job → Bool
 conflict c page i j = (touches c page i && writes_to c page j) || (writes_to c page i && touches c page j)
 
@@ -134,7 +134,7 @@ ConflictsWait c =
 abbrev pub LegalConflictsWait : Type 0
 LegalConflictsWait = ForStates ConflictsWait
 
--- so a job that needs to wait for none any more is in conflict with no unfinished job that was emitted before it
+-- a job that waits for no unfinished job is in conflict with no unfinished job that was emitted before it
 abbrev pub ReadyJobsMayRun : Core → Type 0
 ReadyJobsMayRun c =
     (m n : ℕ) (i j : Job) (page : Page) → m < n → slice_get c.jobs m ≡ Some i → slice_get c.jobs n ≡ Some j → i.finished ≡ false → waited_for c j.waits ≡ None →

@@ -58,7 +58,7 @@ pub fn marks_tell_nothing()
     ensures { MarksTellNothing }
 {}
 
-/// The simulator makes the same journal of both.
+/// The simulator makes the same journal of a script and of the same without marks.
 pub fn marks_turn_nothing()
     ensures { MarksTurnNothing }
 {}

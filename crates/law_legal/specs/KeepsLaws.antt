@@ -34,15 +34,15 @@ RefusalsLeaveNothing script journal =
     (i t : ℕ) (d : Deny) → slice_get journal i ≡ Some (record { who = actor.Thread t; kind = kind.Refused d }) →
     LeavesNothing script (made_of script (take i journal)) (state_of script (take i journal)) t d
 
--- no other legal journal has its report
+-- no other legal journal has the report of this one
 abbrev pub HasItsOwnReport : Script → List Entry → Type 0
 HasItsOwnReport script journal = (other : List Entry) → IsLegal script other → report script journal ≡ report script other → journal ≡ other
 
--- Reads and probes show the bytes of the memory where each buffer has its own place for good. Behind each entry no page, frame or
--- slot is held twice, and live, target, ghost and free ones make each size. Dry places, refusals for lack of room or frames, and
--- backoffs have their causes, and a dry entry names them. Each victim is the first of its lists that can be evicted. Commands are
--- answered once and in order, and a refused one leaves nothing. The journal is shorter than the limit of turns. Its entries' values
--- are of their types, and no other legal journal has its report.
+-- Reads and probes show the bytes of the memory where each buffer has its own place for good. After each entry no page, frame or slot is
+-- held twice, and live, target, ghost and free ones make each size. Dry places, refusals for lack of room or frames, and backoffs have
+-- their causes, and a dry entry names them. Each victim is the first of its lists that can be evicted. Commands are answered once and in
+-- order, and a refused one leaves nothing. The journal is shorter than the limit of turns. Its entries' values are of their types, and no
+-- other legal journal has its report.
 pub record KeepsLaws (script : Script) (journal : List Entry) : Type 0 where
   pub transparent : IsTransparent script journal
   pub accounts : HoldThroughout script journal

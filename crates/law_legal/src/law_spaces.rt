@@ -6,7 +6,7 @@ pub fn mappings_are_the_space()
     ensures { RegionsAreTheSpace }
 {}
 
-/// They stand in rising order, and no two have a page in common.
+/// The mappings that requests leave stand in rising order, and no two have a page in common.
 pub fn mappings_are_disjoint()
     ensures { RegionsAreDisjoint }
 {}

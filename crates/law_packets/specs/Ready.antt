@@ -19,7 +19,7 @@ IsShort (op.Fill dst off len byte) = Unit {0}
 IsShort (op.Copy dst doff src soff len) = Unit {0}
 IsShort (op.Xor dst doff src soff len) = Unit {0}
 
--- all of them do
+-- each probe shows at most 256 bytes
 abbrev pub AllShort : List Op → Type 0
 AllShort [] = Unit {0}
 AllShort (o ∷ ops) = IsShort o × AllShort ops

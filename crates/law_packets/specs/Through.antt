@@ -13,7 +13,7 @@ use Rattle.journal_model.specs.rules.PlainMemory.{Memory, after_op, memory_range
 abbrev pub memory_of : Aperture → PageMap → PageBytes → Memory
 memory_of aper names bytes = λ b x. bytes (translated aper (names (record { 0 = b }) (x / 4096))) (x % 4096)
 
--- each page of each buffer, of which there are so many, has a page of its own
+-- each page of each buffer, which has this many pages, has a page of its own
 abbrev pub AreApart : Aperture → PageMap → (ℕ → ℕ) → Type 0
 AreApart aper names pages =
     (b c : BufId) (i j : ℕ) → i < pages b.0 → j < pages c.0 → same_page (translated aper (names b i)) (translated aper (names c j)) ≡ true → (b.0 ≡ c.0) × (i ≡ j)
@@ -25,7 +25,7 @@ IsInside pages (op.Copy dst doff src soff len) = (doff + len ≤ 4096 * pages ds
 IsInside pages (op.Xor dst doff src soff len) = (doff + len ≤ 4096 * pages dst.0) × (soff + len ≤ 4096 * pages src.0) × ((dst.0 == src.0) ≡ false)
 IsInside pages (op.Probe src off len) = off + len ≤ 4096 * pages src.0
 
--- all of them do
+-- each operation lies inside its buffers, and they are two where it reads one beside the one that it writes
 abbrev pub AllInside : (ℕ → ℕ) → List Op → Type 0
 AllInside pages [] = Unit {0}
 AllInside pages (o ∷ ops) = IsInside pages o × AllInside pages ops

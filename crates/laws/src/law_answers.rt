@@ -13,7 +13,7 @@ pub fn answers_are_in_order()
     ensures { (script : Script) (journal : List Entry) → IsTrue (is_script script) → IsLegal script journal → AreInOrder script journal }
 {}
 
-/// Every job has a packet, at most two victims are caught, and a target stands at a held buffer alone.
+/// Every job has a packet, at most two victims are caught, and only a held buffer has a target.
 pub fn victims_are_few()
     ensures { (script : Script) (journal : List Entry) → IsTrue (is_script script) → IsLegal script journal → AreFew (state_of script journal) }
 {}

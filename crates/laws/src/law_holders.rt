@@ -8,7 +8,7 @@ ghost use Rattle.journal_model.specs.rules.Legal.{IsLegal, state_of};
 ghost use Rattle.laws.specs.law_holders.Holding.{HeldOnce};
 ghost use Rattle.laws.specs.law_holders.Maps.{Maps};
 
-/// Page, frame or slot: each is one page of one buffer, or kept for one, or of one target or ghost, or nobody's.
+/// Each page, frame or slot is one page of one buffer, or kept for one, or of one target or ghost, or nobody's.
 pub fn pages_are_held_once()
     ensures { (script : Script) (journal : List Entry) → IsTrue (is_script script) → IsLegal script journal → HeldOnce (state_of script journal).core }
 {}

@@ -5,7 +5,7 @@ ghost use Rattle.journal_model.specs.declared.entry.Entry.{Entry};
 ghost use Rattle.journal_model.specs.statements.Complete.{is_answer, is_complete};
 ghost use Rattle.journal_model.specs.rules.Legal.{IsLegal};
 
-/// A legal journal goes on no further than where it is complete.
+/// A legal journal has no entries after the point where it is complete.
 pub fn complete_is_last()
     ensures { (script : Script) (journal more : List Entry) → IsLegal script (journal ++ more) → is_complete script journal ≡ true → more ≡ [] }
 {}

@@ -18,7 +18,7 @@ pub fn accounts_hold()
     ensures { LegalHasAccounts }
 {}
 
-/// The same after each front of a legal journal.
+/// After each prefix of a legal journal free pages and those of buffers, targets and ghosts make each size; so do frames, and slots.
 pub fn accounts_hold_throughout()
     ensures { (script : Script) (journal : List Entry) → IsTrue (is_script script) → IsLegal script journal → HoldThroughout script journal }
 {}

@@ -18,12 +18,12 @@ pub fn searches_agree()
     ensures { IsSameSearch }
 {}
 
-/// In a script of the first version each buffer's list is such a list.
+/// In a script of the first version each buffer's list has its desired places first, and then its fallback places.
 pub fn first_version_has_two_lists()
     ensures { (script : Script) (b : BufId) → IsTrue (is_script script) → script.version ≡ 1 → IsTwoLists (decl script b).placement.list }
 {}
 
-/// Its form in the second version is a script.
+/// The form in the second version of a script of the first is a script.
 pub fn form_is_a_script()
     ensures { (script : Script) → IsTrue (is_script script) → script.version ≡ 1 → IsTrue (is_script (record script { version = 2 })) }
 {}
@@ -33,12 +33,12 @@ pub fn forms_agree()
     ensures { FormsAgree }
 {}
 
-/// So they have for whatever turns.
+/// A script has the same journal in each version along whatever turns.
 pub fn turns_agree()
     ensures { (script : Script) (version : ℕ) (actors : List Actor) → journal_along (record script { version = version }) actors ≡ journal_along script actors }
 {}
 
-/// The same journals are legal for both.
+/// The same journals are legal for a script in each version.
 pub fn legal_journals_agree()
     ensures { (script : Script) (version : ℕ) (journal : List Entry) → IsLegal script journal ↔ IsLegal (record script { version = version }) journal }
 {}

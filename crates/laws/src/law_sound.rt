@@ -12,7 +12,7 @@ ghost use Rattle.laws.specs.law_sound.Orders.{FindsOne};
 ghost use Rattle.laws.specs.law_sound.Sound.{Sound, SomeGoesOn};
 ghost use Rattle.journal_model.specs.declared.state.State.{State};
 
-/// Jobs wait for earlier jobs alone, and the holder of a buffer tells which thread has it.
+/// Jobs wait for earlier jobs alone, and the holder of a buffer tells which thread holds it.
 pub fn states_are_sound()
     ensures { (script : Script) (journal : List Entry) → IsTrue (is_script script) → IsLegal script journal → Sound script (state_of script journal) }
 {}
@@ -34,13 +34,13 @@ pub fn no_journal_is_a_dead_end()
     ensures { LegalNeverEndsDead }
 {}
 
-/// Where a legal journal has come to its end, nobody has an entry.
+/// Where a legal journal has come to its end, no actor has an entry.
 pub fn nobody_goes_on_behind_the_end()
     ensures { (script : Script) (journal : List Entry) → IsTrue (is_script script) → IsLegal script journal
         → is_over script (state_of script journal) ≡ true → (who : Actor) → can_step script (state_of script journal) who ≡ false }
 {}
 
-/// Before that the simulator's own order finds an actor that has one.
+/// Until a legal journal is over, the simulator's own order finds an actor that has an entry.
 pub fn own_order_finds_who_goes_on()
     ensures { (script : Script) (journal : List Entry) → IsTrue (is_script script) → IsLegal script journal
         → is_over script (state_of script journal) ≡ false → FindsOne script (state_of script journal) }

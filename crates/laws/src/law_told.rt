@@ -9,8 +9,8 @@ ghost use Rattle.journal_model.specs.rules.Next.{next};
 ghost use Rattle.journal_model.specs.rules.Legal.{IsLegal, state_of};
 ghost use Rattle.laws.specs.lemma_bytes_told.Told.{Told};
 
-/// Behind a legal journal a thread's next entry tells where its buffer stands, that it is filled, has its target or is idle, and
-/// which pages are free.
+/// After a legal journal a thread's next entry tells where its buffer stands, that it is filled, has its target or is idle, and which pages
+/// are free.
 pub fn entries_tell()
     ensures { (script : Script) (journal : List Entry) (thread : ℕ) (kind : Kind) → IsTrue (is_script script) → IsLegal script journal
         → next script (state_of script journal) (actor.Thread thread) ≡ Ok kind → Told script (state_of script journal) thread kind }

@@ -24,7 +24,7 @@ pub fn legal_journals_are_transparent()
     ensures { LegalIsTransparent }
 {}
 
-/// So are the journals of the simulator's schedule, after any number of turns.
+/// The journals of the simulator's schedule are transparent, after any number of turns.
 pub fn schedules_are_transparent()
     ensures { (script : Script) (n : ℕ) → IsTrue (is_script script) → IsTransparent script (scheduled script n) }
 {}

@@ -7,9 +7,9 @@ ghost use Rattle.journal_model.specs.rules.PlainMemory.{plain_of};
 ghost use Rattle.journal_model.specs.rules.Legal.{IsLegal, state_of, stores_of};
 ghost use Rattle.laws.specs.law_views.GoodViews.{HasGoodView};
 
-/// Behind each legal journal jobs of which one writes a page that the other touches come one after the other, jobs that touch a page are
-/// covered by those of its owner, and once all packets that are left have run in the order of emission, each page of a buffer holds what the
-/// plain memory has.
+/// After each legal journal, of jobs of which one writes a page that the other touches one comes after the other; jobs that touch a page
+/// are covered by those of its owner; and once all packets that are left have run in the order of emission, each page of a buffer holds
+/// what the plain memory has.
 pub fn views_are_good()
     ensures { (script : Script) (journal : List Entry) → IsTrue (is_script script) → IsLegal script journal
         → HasGoodView script (state_of script journal).core (plain_of script journal).owed_probes (plain_of script journal).memory (stores_of script journal) }

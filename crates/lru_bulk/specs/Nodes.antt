@@ -12,7 +12,7 @@ module _ {T : Type 0} where
   abbrev pub nodes_of : Slab T → List (Option ℕ) → List (Option T)
   nodes_of slab keys = map (under slab) keys
 
-  -- each key has a value, and no two owners have one key
+  -- each key has a value, and no two owners have the same key
   pub record IsKeyed (slab : Slab T) (keys : List (Option ℕ)) : Type 0 where
     pub filled : (i key : ℕ) → slice_index_or keys i None ≡ Some key → IsSome (get slab key)
     pub apart : (i j key : ℕ) → slice_index_or keys i None ≡ Some key → slice_index_or keys j None ≡ Some key → i ≡ j

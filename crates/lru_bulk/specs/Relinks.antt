@@ -14,12 +14,12 @@ abbrev pub IsSpot : Rings → Spot → Type 0
 IsSpot r (End i) = i < length r.ends
 IsSpot r (Of b) = IsSome (listing_in (listings_of r) b)
 
--- links with one led elsewhere
+-- the links of a spot after one of them was led elsewhere
 abbrev pub led : Links → Way → Spot → Links
 led links Next to = record links { next = to }
 led links Prev to = record links { prev = to }
 
--- all but the links is kept
+-- all but the links is unchanged
 pub record SameRest (old new : Rings) : Type 0 where
   pub ends : length new.ends ≡ length old.ends
   pub listings : listings_of new ≡ listings_of old
@@ -27,7 +27,7 @@ pub record SameRest (old new : Rings) : Type 0 where
   pub groups : new.groups ≡ old.groups
 
 module _ {S : Type 0} where
-  -- u leads to v, v back to u, and all other links are kept
+  -- u leads to v, v leads back to u, and all other links are unchanged
   pub record Tied (n p n' p' : S → S) (u v : S) : Type 0 where
     pub next : n' u ≡ v
     pub prev : p' v ≡ u

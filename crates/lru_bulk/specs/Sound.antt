@@ -1,4 +1,4 @@
--- What the links, the nodes and the ranges of groups say of the lists. No public clause cites this module.
+-- How the links, the nodes and the ranges of groups show the lists. No public clause cites this module.
 use Rattle.std.specs.Prelude.{◌≡◌, ◌≢◌, ℕ, zero, suc, ◌+◌, ◌*◌, ◌<◌, Bool, true, false, List, [], ◌∷◌, ◌++◌, Option, Some, None, ◌==◌, map, option_map, length, slice_index_or, slice_set, if◌then◌else◌}
 use Rattle.std.specs.List.{list_any}
 use Rattle.ttm_base.specs.declared.BufId.{BufId}
@@ -12,7 +12,7 @@ use Rattle.lru_bulk.specs.declared.rings.Rings.{Rings}
 use Rattle.lru_bulk.specs.Rings.{Each, Path}
 use Rattle.lru_bulk.specs.Lists.{Order, list_at, number_of, listing_in, is_member, IsGroup}
 
--- links of what isn't there
+-- the links of a spot that isn't there
 abbrev pub loose : Links
 loose = record { next = End 0; prev = End 0 }
 
@@ -33,7 +33,7 @@ prev_at r s = (links_at r s).prev
 abbrev pub listings_of : Rings → List (Option Listing)
 listings_of r = map (option_map (λ n. n.listing)) r.nodes
 
--- the buffers from a spot on, so many at most
+-- the buffers from a spot on, up to a number of them
 abbrev pub walk : (Spot → Spot) → ℕ → Spot → List BufId
 walk next zero s = []
 walk next (suc k) (End i) = []
@@ -59,7 +59,7 @@ abbrev pub range_of : List BufId → Option Range
 range_of [] = None
 range_of (b ∷ cs) = Some (record { first = b; last = last_from b cs })
 
--- those that pass stand side by side, and this is their range
+-- the elements that pass are side by side, and this is their range
 pub record IsBlock (test : BufId → Bool) (l : List BufId) (range : Option Range) : Type 0 where
   pub before : List BufId
   pub inside : List BufId
@@ -70,11 +70,11 @@ pub record IsBlock (test : BufId → Bool) (l : List BufId) (range : Option Rang
   pub none_after : Each (λ b. test b ≡ false) after
   pub range_is : range ≡ range_of inside
 
--- the list has the buffer
+-- whether the buffer is in the list
 abbrev pub has : BufId → List BufId → Bool
 has b l = list_any (λ c. b.0 == c.0) l
 
--- the buffer is listed on list i, and isn't the one that stands on none
+-- the buffer is listed on list i, and isn't the one that is on no list
 pub record IsAt (listings : List (Option Listing)) (out : Option BufId) (i : ℕ) (b : BufId) : Type 0 where
   pub listing : Listing
   pub listed : listing_in listings b ≡ Some listing
@@ -85,7 +85,7 @@ pub record IsAt (listings : List (Option Listing)) (out : Option BufId) (i : ℕ
 abbrev pub range_at : List (Option Range) → ℕ → ℕ → Option Range
 range_at ranges g i = slice_index_or ranges (g * 12 + i) None
 
--- the range of a group after b has left it, p before it and s after it
+-- the range of a group after b, which was between p and s, has left it
 abbrev pub narrowed : Range → BufId → BufId → BufId → Option Range
 narrowed r b p s =
     if b.0 == r.first.0
@@ -116,32 +116,32 @@ abbrev pub range_for : List (Option Range) → Option ℕ → ℕ → Option Ran
 range_for ranges None i = None
 range_for ranges (Some g) i = range_at ranges g i
 
--- the spot after which one more of the group stands
+-- the spot after which the next member of the group is put
 abbrev pub spot_before : Rings → Option Range → ℕ → Spot
 spot_before r None i = prev_at r (End i)
 spot_before r (Some range) i = Of range.last
 
--- the buffer of a spot, or b at an end
+-- the buffer of a spot, or b at the end of a list
 abbrev pub buffer_of : Spot → BufId → BufId
 buffer_of (End i) b = b
 buffer_of (Of c) b = c
 
--- the buffer of a spot, if it isn't an end
+-- the buffer of a spot, or None at the end of a list
 abbrev pub buffer_in : Spot → Option BufId
 buffer_in (End i) = None
 buffer_in (Of c) = Some c
 
--- ends that lead to themselves
+-- ends that are linked to themselves
 pub record AreClosed (count : ℕ) (ends : List Links) : Type 0 where
   pub count_is : length ends ≡ count
   pub closed : (i : ℕ) → i < count → slice_index_or ends i loose ≡ record { next = End i; prev = End i }
 
--- the first of them, or b where there are none
+-- the first of the buffers, or b where there are none
 abbrev pub first_from : BufId → List BufId → BufId
 first_from b [] = b
 first_from b (c ∷ cs) = c
 
--- the links and the ranges show these lists. One buffer may have a node and stand on none
+-- the links and the ranges show these lists. One buffer may have a node and be on no list
 pub record IsSound (r : Rings) (out : Option BufId) (lists : List (List BufId)) : Type 0 where
   pub ends : length r.ends ≡ 12
   pub count : length lists ≡ 12
@@ -153,6 +153,6 @@ pub record IsSound (r : Rings) (out : Option BufId) (lists : List (List BufId)) 
   pub groups : (b : BufId) (x : Listing) → listing_in (listings_of r) b ≡ Some x → IsGroup r.groups x.group
   pub blocks : (i g : ℕ) → i < 12 → g < r.groups → IsBlock (is_member (listings_of r) g) (list_at lists i) (range_at r.ranges g i)
 
--- the lists that the links lead through
+-- the links and the ranges show the lists through which the links lead
 abbrev pub IsWhole : Rings → Option BufId → Type 0
 IsWhole r out = IsSound r out (lists_of r)

@@ -1,6 +1,7 @@
-//! The twelve lists of buffers in eviction order, by memory type and priority, with bulk moves of groups (the lists lru of
-//! ttm_resource_manager, ttm_lru_bulk_move). The nodes stand in a slab and are linked by their buffers' numbers. Each list is a ring
-//! through its end, and for each group and list the first and the last member are kept, so that a bulk move splices one range.
+//! The twelve LRU lists of buffers in the order of eviction, by memory type and priority, with bulk moves of groups (the
+//! lists lru of ttm_resource_manager, ttm_lru_bulk_move). The nodes are in a slab and are linked by the numbers of their
+//! buffers. Each list is a ring through its end, and for each group and list the first and the last member are kept, so that
+//! a bulk move splices one range.
 #![tactic(auto)]
 
 ghost use Rattle.std.specs.Prelude.{◌≡◌, ◌+◌, ◌*◌, ◌<◌, ◌≤◌, ◌↔◌, ℕ, Some, None, IsSome, IsTrue, IfOk, OnOk, OnErr, length, slice_get};
@@ -21,12 +22,13 @@ pub use nodes::Listing;
 use rings::Rings;
 pub use step_count::Steps;
 
-/// The twelve lists, seen as lists of buffers, with how each buffer is listed. A group is a number below that given to `new`.
+/// The twelve LRU lists, seen as lists of buffers, with how each buffer is listed. A group is a number below the count that
+/// was given to `new`.
 pub struct Lru {
     rings: Rings,
 }
 
-/// By hand, so that no crate above proves how each part goes.
+/// Names each part, so that no crate above proves how they are dropped.
 impl Drop for Lru {
     fn drop(self) {
         let Self { rings: _ } = self;
@@ -49,7 +51,7 @@ impl Model for Lru {
 impl Lru {
     ghost use Rattle.lru_bulk.specs.declared.nodes.Listing.{Listing as Listed};
 
-    /// No buffer of so many is listed.
+    /// Returns empty lists for `buffers` buffers and `groups` groups.
     pub fn new(alloc: Global, buffers: u32, groups: u32) -> Result<Lru, NoMemory>
         ensures { IfOk result (λ lru. lru ≡ nothing_listed buffers groups) }
     {
@@ -57,8 +59,8 @@ impl Lru {
         Ok(Lru { rings })
     }
 
-    /// Lists a buffer, after the last of its group in its list, or at the list's end. It makes room for the buffer in the
-    /// lists of all memory types.
+    /// Lists the buffer `b`, after the last member of its group in its list, or at the end of the list. Makes room for the
+    /// buffer in the lists of all memory types. Where memory is refused nothing changes.
     pub fn add(&mut self, b: BufId, mem: Mem, prio: u32, group: Option<u32>) -> Result<(), NoMemory>
         requires known { b.0 < length self.old.listings }
         requires absent { listing_of self.old b ≡ None }
@@ -71,7 +73,7 @@ impl Lru {
         self.rings.enlist::<Brand>(b, listing, Blank::new(1))
     }
 
-    /// Takes a buffer off its list.
+    /// Removes the buffer `b` from its list.
     pub fn remove(&mut self, b: BufId)
         requires { IsSome (listing_of self.old b) }
         ensures { self.new ≡ removed self.old b }
@@ -79,7 +81,7 @@ impl Lru {
         self.rings.delist::<Brand>(b, Blank::new(1));
     }
 
-    /// Places a buffer again on its list: after the last other of its group, or at the list's end.
+    /// Moves the buffer `b` in its list: after the last other member of its group, or to the end of the list.
     pub fn touch(&mut self, b: BufId)
         requires { IsSome (listing_of self.old b) }
         ensures { self.new ≡ touched self.old b }
@@ -87,7 +89,7 @@ impl Lru {
         self.rings.replace::<Brand>(b, Blank::new(1));
     }
 
-    /// Places a buffer on the list of another memory type, or again on its own, with its priority and group.
+    /// Moves the buffer `b` to the list of the memory type `mem`, which may be its own, with its priority and group.
     pub fn relist(&mut self, b: BufId, mem: Mem)
         requires { IsSome (listing_of self.old b) }
         ensures { self.new ≡ relisted self.old b mem }
@@ -95,7 +97,7 @@ impl Lru {
         self.rings.rehome::<Brand>(b, mem, Blank::new(1));
     }
 
-    /// Makes each list its non-members of a group followed by its members, each in their old order.
+    /// Moves the members of a group to the end of each list, where members and non-members keep their order.
     pub fn bulk_tail(&mut self, group: u32)
         requires { group < self.old.groups }
         ensures { self.new ≡ bulk_moved self.old group }
@@ -103,8 +105,8 @@ impl Lru {
         self.rings.splice_uncounted::<Brand>(group, Blank::new(1));
     }
 
-    /// The same, where each link that is written counts one step: six at most for each of the twelve lists, however many
-    /// members the group has.
+    /// Moves the members of a group to the end of each list, as `bulk_tail` does, and counts a step for each link that is
+    /// written: at most six for each of the twelve lists, however many members the group has.
     pub fn bulk_tail_counted<L: Ledger>(&mut self, group: u32, steps: &mut Steps<L>)
         requires { group < self.old.groups }
         ensures lists { self.new ≡ bulk_moved self.old group }
@@ -113,8 +115,8 @@ impl Lru {
         self.rings.splice_all(group, steps);
     }
 
-    /// Makes one list alone its non-members of a group followed by its members, as `bulk_tail` does with each of the twelve. Each
-    /// link that is written counts one step: six at most, however many members the group has there.
+    /// Moves the members of a group to the end of one list alone, as `bulk_tail` does in each of the twelve. Counts a step
+    /// for each link that is written: at most six, however many members the group has there.
     pub fn bulk_tail_in<L: Ledger>(&mut self, mem: Mem, prio: u32, group: u32, steps: &mut Steps<L>)
         requires prio { prio < 4 }
         requires group { group < self.old.groups }
@@ -129,15 +131,15 @@ impl Lru {
         self.rings.splice(group, rings::list_number(listing), steps);
     }
 
-    /// Whether a buffer is on a list.
+    /// Returns whether the buffer `b` is on a list.
     pub fn is_listed(&self, b: BufId) -> bool
         ensures { IsTrue result ↔ IsSome (listing_of self.now b) }
     {
         self.rings.nodes.has(b)
     }
 
-    /// Whether `add` may be called: the buffer is one of those that `new` was told of and is on no list, and the group, if
-    /// there is one, is one of those.
+    /// Returns whether `add` may be called: `b` is one of the buffers for which `new` made the lists, and is on no list, and
+    /// the group, if there is one, is one of its groups.
     pub fn can_add(&self, b: BufId, group: Option<u32>) -> bool
         ensures known { IsTrue result → b.0 < length self.now.listings }
         ensures absent { IsTrue result → listing_of self.now b ≡ None }
@@ -152,7 +154,7 @@ impl Lru {
         }
     }
 
-    /// The first buffer of a list: the one to be evicted first.
+    /// Returns the first buffer of a list, which is to be evicted first, or None where the list is empty.
     pub fn first(&self, mem: Mem, prio: u32) -> Option<BufId>
         requires { prio < 4 }
         ensures { result ≡ slice_get (list_at self.now.lists (list_number mem prio)) 0 }
@@ -160,7 +162,7 @@ impl Lru {
         self.rings.first(mem, prio)
     }
 
-    /// The buffer after another in its list.
+    /// Returns the buffer after `b` in its list, or None where `b` is the last.
     pub fn next(&self, b: BufId) -> Option<BufId>
         requires { IsSome (listing_of self.now b) }
         ensures { result ≡ behind b (list_of self.now b) }
@@ -168,7 +170,8 @@ impl Lru {
         self.rings.next(b)
     }
 
-    /// What stands on a list is listed for it, and stands there once. It does nothing: its contract is the law.
+    /// Tells that a buffer is on a list exactly where it is listed for it, and that it is there once. The call does nothing:
+    /// its contract is the law.
     pub fn members_stand_once(&self)
         ensures twelve { length self.now.lists ≡ 12 }
         ensures listed { AreMembersListed self.now }
@@ -180,7 +183,7 @@ impl Lru {
         let _groups = self.rings.groups;
     }
 
-    /// In each list the members of one group stand side by side. It does nothing: its contract is the law.
+    /// Tells that in each list the members of one group are side by side. The call does nothing: its contract is the law.
     pub fn stand_together(&self)
         ensures { (i g : ℕ) → i < 12 → g < self.now.groups → StandTogether (is_member self.now.listings g) (list_at self.now.lists i) }
     {

@@ -1,4 +1,4 @@
-//! What becomes of the rings where a buffer is listed, leaves its list, joins one, or a group moves in bulk.
+//! How the rings change where a buffer is listed, leaves its list, joins one, or a group moves in bulk.
 ghost use Rattle.std.specs.Prelude.{◌≡◌, ◌+◌, ◌*◌, ◌<◌, ◌≤◌, Some, None, IsSome, OnOk, OnErr, length, map, slice_set};
 
 use crate::nodes::{Links, Listing, Node, Spot};
@@ -12,7 +12,7 @@ impl Rings {
     ghost use Rattle.lru_bulk.specs.Lists.{number_of, listing_in, list_at, taken_off, put_on, members_last, is_member, IsGroup};
     ghost use Rattle.lru_bulk.specs.Sound.{listings_of, lists_of, IsWhole};
 
-    /// Gives a buffer a node that stands on no list.
+    /// Gives the buffer `b` a node that is on no list.
     pub(crate) fn put(&mut self, b: BufId, listing: Listing) -> Result<(), NoMemory>
         requires sound { IsWhole self.old None }
         requires known { b.0 < length (listings_of self.old) }
@@ -36,7 +36,7 @@ impl Rings {
         }
     }
 
-    /// Takes the node of a buffer that stands on no list away.
+    /// Removes the node of a buffer that is on no list.
     pub(crate) fn take(&mut self, b: BufId)
         requires sound { IsWhole self.old (Some b) }
         requires listed { IsSome (listing_in (listings_of self.old) b) }
@@ -48,7 +48,7 @@ impl Rings {
         self.nodes.take(b);
     }
 
-    /// Lists a buffer that stands on no list for another memory type.
+    /// Changes the memory type of a buffer that is on no list.
     pub(crate) fn set_mem(&mut self, b: BufId, mem: Mem)
         requires sound { IsWhole self.old (Some b) }
         requires listed { IsSome (listing_in (listings_of self.old) b) }
@@ -71,7 +71,7 @@ impl Rings {
     ghost use Rattle.lru_bulk.specs.Lists.{number_of, listing_in, list_at, taken_off, put_on, members_last, is_member};
     ghost use Rattle.lru_bulk.specs.Sound.{next_at, listings_of, lists_of, range_at, IsWhole};
 
-    /// Takes a buffer off its list, and keeps its node. Two links are written.
+    /// Removes a buffer from its list, and keeps its node. Two links are written.
     pub(crate) fn leave<L: Ledger>(&mut self, b: BufId, steps: &mut Steps<L>)
         requires sound { IsWhole self.old None }
         requires listed { IsSome (listing_in (listings_of self.old) b) }
@@ -86,7 +86,7 @@ impl Rings {
         self.narrow(node.listing, b, node.links);
     }
 
-    /// Places a buffer that stands on no list. Four links are written.
+    /// Puts a buffer that is on no list on the list for which it is listed. Four links are written.
     pub(crate) fn join<L: Ledger>(&mut self, b: BufId, steps: &mut Steps<L>)
         requires sound { IsWhole self.old (Some b) }
         requires listed { IsSome (listing_in (listings_of self.old) b) }
@@ -105,7 +105,7 @@ impl Rings {
         self.widen(node.listing, b);
     }
 
-    // Splices a range that ends before `behind` to the end of a list. Six links are written.
+    // Splices a range, which ends before the buffer `behind`, to the end of a list. Six links are written.
     fn splice_before<L: Ledger>(
         &mut self,
         group: u32,
@@ -132,7 +132,7 @@ impl Rings {
         self.tie(Spot::Of(range.last), Spot::End(list), steps);
     }
 
-    // Splices a range to the end of a list, unless it stands there. Six links are written at most.
+    // Splices a range to the end of a list, unless it is there already. At most six links are written.
     fn splice_range<L: Ledger>(
         &mut self,
         group: u32,
@@ -157,7 +157,7 @@ impl Rings {
         }
     }
 
-    /// Splices the range of a group, if it has one, to the end of a list. Six links are written at most.
+    /// Splices the range of a group, if it has one, to the end of a list. At most six links are written.
     pub(crate) fn splice<L: Ledger>(&mut self, group: u32, list: usize, steps: &mut Steps<L>)
         requires sound { IsWhole self.old None }
         requires group { group < self.old.groups }
@@ -175,7 +175,7 @@ impl Rings {
         }
     }
 
-    /// Makes each list its members of a group after the others.
+    /// Splices the range of a group to the end of each list.
     pub(crate) fn splice_all<L: Ledger>(&mut self, group: u32, steps: &mut Steps<L>)
         requires sound { IsWhole self.old None }
         requires group { group < self.old.groups }
@@ -196,7 +196,7 @@ impl Rings {
     ghost use Rattle.lru_bulk.specs.Lists.{Order, listing_of, added, removed, touched, relisted, bulk_moved, IsGroup};
     ghost use Rattle.lru_bulk.specs.Sound.{order_of, IsWhole};
 
-    /// Lists a buffer, and places it.
+    /// Gives a buffer a node, and puts it on its list.
     pub(crate) fn enlist<L: Ledger>(
         &mut self,
         b: BufId,
@@ -221,7 +221,7 @@ impl Rings {
         Ok(())
     }
 
-    /// Takes a buffer off its list, and its node away.
+    /// Removes a buffer from its list, and its node too.
     pub(crate) fn delist<L: Ledger>(&mut self, b: BufId, blank: Blank)
         requires name { blank.name ≡ L.name }
         requires parts { blank.parts ≡ L.parts }
@@ -236,7 +236,7 @@ impl Rings {
         self.take(b);
     }
 
-    /// Takes a buffer off its list and places it on it again.
+    /// Removes a buffer from its list and puts it on the list again.
     pub(crate) fn replace<L: Ledger>(&mut self, b: BufId, blank: Blank)
         requires name { blank.name ≡ L.name }
         requires parts { blank.parts ≡ L.parts }
@@ -251,7 +251,7 @@ impl Rings {
         self.join(b, &mut steps);
     }
 
-    /// Takes a buffer off its list and places it on that of another memory type.
+    /// Removes a buffer from its list and puts it on the list of another memory type.
     pub(crate) fn rehome<L: Ledger>(&mut self, b: BufId, mem: Mem, blank: Blank)
         requires name { blank.name ≡ L.name }
         requires parts { blank.parts ≡ L.parts }
@@ -267,7 +267,7 @@ impl Rings {
         self.join(b, &mut steps);
     }
 
-    /// Makes each list its members of a group after the others, uncounted.
+    /// Splices the range of a group to the end of each list, and counts no steps for the caller.
     pub(crate) fn splice_uncounted<L: Ledger>(&mut self, group: u32, blank: Blank)
         requires name { blank.name ≡ L.name }
         requires parts { blank.parts ≡ L.parts }
@@ -287,7 +287,7 @@ impl Rings {
     ghost use Rattle.lru_bulk.specs.Lists.{list_number as number, list_at, list_of, listing_of, behind};
     ghost use Rattle.lru_bulk.specs.Sound.{order_of, IsWhole};
 
-    /// The first buffer of a list.
+    /// Returns the first buffer of a list, or None where the list is empty.
     pub(crate) fn first(&self, mem: Mem, prio: u32) -> Option<BufId>
         requires sound { IsWhole self.now None }
         requires prio { prio < 4 }
@@ -302,7 +302,7 @@ impl Rings {
         buffer_in(links.next)
     }
 
-    /// The buffer after another in its list.
+    /// Returns the buffer after `b` in its list, or None where `b` is the last.
     pub(crate) fn next(&self, b: BufId) -> Option<BufId>
         requires sound { IsWhole self.now None }
         requires listed { IsSome (listing_of (order_of self.now) b) }

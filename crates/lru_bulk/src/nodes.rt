@@ -5,7 +5,7 @@ use std::alloc::Global;
 use std::marker::Model;
 use ttm_base::{BufId, ItemList, Mem, NoMemory};
 
-/// How a buffer is listed: the list of its memory type and priority, and its group.
+/// How a buffer is listed: on the list of its memory type and priority, with its group.
 #[derive(Clone, Copy)]
 pub struct Listing {
     pub mem: Mem,
@@ -13,7 +13,8 @@ pub struct Listing {
     pub group: Option<u32>,
 }
 
-/// A place that links lead to: the end of a list, which stands before its first node and after its last, or a buffer's node.
+/// A spot to which links lead: the end of a list, which is before its first node and after its last, or the node of a
+/// buffer.
 #[derive(Clone, Copy)]
 pub enum Spot {
     End(usize),
@@ -34,11 +35,11 @@ pub struct Node {
     pub links: Links,
 }
 
-/// The nodes of buffers in a slab, seen as a list by the buffers' numbers.
+/// The nodes of buffers in a slab, seen as a list by the numbers of the buffers.
 #[derive(Drop)]
 pub struct Nodes {
     slab: Slab<Node>,
-    // The key of each buffer's node.
+    // The key of the node of each buffer.
     keys: ItemList<Option<usize>>,
 }
 
@@ -55,7 +56,7 @@ impl Model for Nodes {
     ghost invariant = { λ n. IsKeyed n.slab n.keys };
 }
 
-/// So many items that are one.
+/// Returns a list of `count` copies of `item`.
 pub(crate) fn repeated<T: Copy + Drop>(
     alloc: Global,
     count: usize,
@@ -70,7 +71,7 @@ pub(crate) fn repeated<T: Copy + Drop>(
     Ok(list)
 }
 
-// The key of a buffer's node.
+// Returns the key of the node of the buffer `b`.
 fn key_of(keys: &ItemList<Option<usize>>, b: BufId) -> usize
     requires { IsSome (slice_index_or keys.now b.0 None) }
     ensures { slice_index_or keys.now b.0 None ≡ Some result }
@@ -79,7 +80,7 @@ fn key_of(keys: &ItemList<Option<usize>>, b: BufId) -> usize
 }
 
 impl Nodes {
-    /// No buffer of so many has a node.
+    /// Returns nodes for `buffers` buffers, of which none has a node.
     pub(crate) fn new(alloc: Global, buffers: u32) -> Result<Nodes, NoMemory>
         ensures { IfOk result (λ nodes. nodes ≡ replicate buffers None) }
     {
@@ -90,7 +91,7 @@ impl Nodes {
         })
     }
 
-    /// Gives a buffer a node.
+    /// Gives the buffer `b` a node. Where memory is refused nothing changes.
     pub(crate) fn put(&mut self, b: BufId, node: Node) -> Result<(), NoMemory>
         requires known { b.0 < length self.old }
         requires absent { slice_index_or self.old b.0 None ≡ None }
@@ -102,7 +103,7 @@ impl Nodes {
         Ok(())
     }
 
-    /// Takes the node of a buffer away.
+    /// Removes the node of the buffer `b`.
     pub(crate) fn take(&mut self, b: BufId)
         requires { IsSome (slice_index_or self.old b.0 None) }
         ensures { self.new ≡ slice_set self.old b.0 None }
@@ -112,21 +113,21 @@ impl Nodes {
         self.keys.set(b.0 as usize, None);
     }
 
-    /// How many buffers there are.
+    /// Returns the number of buffers.
     pub(crate) fn len(&self) -> usize
         ensures { result ≡ length self.now }
     {
         self.keys.len()
     }
 
-    /// Whether a buffer has a node.
+    /// Returns whether the buffer `b` has a node.
     pub(crate) fn has(&self, b: BufId) -> bool
         ensures { IsTrue result ↔ IsSome (slice_index_or self.now b.0 None) }
     {
         (b.0 as usize) < self.keys.len() && self.keys.at(b.0 as usize).is_some()
     }
 
-    /// The node of a buffer.
+    /// Returns the node of the buffer `b`.
     pub(crate) fn at(&self, b: BufId) -> Node
         requires { IsSome (slice_index_or self.now b.0 None) }
         ensures { slice_index_or self.now b.0 None ≡ Some result }
@@ -134,7 +135,7 @@ impl Nodes {
         self.slab[key_of(&self.keys, b)]
     }
 
-    /// Puts another node in the place of a buffer's.
+    /// Replaces the node of the buffer `b`.
     pub(crate) fn set(&mut self, b: BufId, node: Node)
         requires { IsSome (slice_index_or self.old b.0 None) }
         ensures { self.new ≡ slice_set self.old b.0 (Some node) }

@@ -9,7 +9,7 @@ use std::sync::ledger::Ledger;
 use step_count::Steps;
 use ttm_base::{BufId, ItemList, Mem, NoMemory};
 
-/// How many lists there are: one for each memory type and priority.
+/// The number of lists: one for each memory type and priority.
 pub const LISTS: usize = 12;
 
 /// The first and the last member of a group in a list.
@@ -22,22 +22,22 @@ pub struct Range {
 /// Twelve rings of nodes, each through the end of its list, and the range of each group in each list.
 #[derive(Drop)]
 pub struct Rings {
-    // The links of the lists' ends: to the first and the last node.
+    // The links of the ends of the lists: to the first and the last node.
     pub ends: ItemList<Links>,
     pub nodes: Nodes,
-    // By group, and of a group by list.
+    // The ranges, ordered by group, and within a group by list.
     pub ranges: ItemList<Option<Range>>,
     pub groups: u32,
 }
 
-/// Which of its two links.
+/// Which of the two links of a spot is meant.
 #[derive(Clone, Copy)]
 enum Way {
     Next,
     Prev,
 }
 
-// The number of a memory type.
+// Returns the number of a memory type.
 fn number_of_mem(mem: Mem) -> usize
     ensures number { result ≡ mem_number mem }
     ensures below { result < 3 }
@@ -49,7 +49,7 @@ fn number_of_mem(mem: Mem) -> usize
     }
 }
 
-/// The number of a listing's list among the twelve.
+/// Returns the number of the list of a listing among the twelve.
 pub(crate) fn list_number(listing: Listing) -> usize
     requires { listing.prio < 4 }
     ensures number { result ≡ number_of listing }
@@ -58,7 +58,7 @@ pub(crate) fn list_number(listing: Listing) -> usize
     4 * number_of_mem(listing.mem) + listing.prio as usize
 }
 
-// The buffer of a spot, or `b` at an end.
+// Returns the buffer of a spot, or `b` at the end of a list.
 fn buffer_of(spot: Spot, b: BufId) -> BufId
     ensures { result ≡ words.buffer_of spot b }
 {
@@ -68,7 +68,7 @@ fn buffer_of(spot: Spot, b: BufId) -> BufId
     }
 }
 
-/// The buffer of a spot, if it isn't an end.
+/// Returns the buffer of a spot, or None at the end of a list.
 pub(crate) fn buffer_in(spot: Spot) -> Option<BufId>
     ensures { result ≡ words.buffer_in spot }
 {
@@ -78,7 +78,8 @@ pub(crate) fn buffer_in(spot: Spot) -> Option<BufId>
     }
 }
 
-// The range of a group after `b` has left it, which stood between `before` and `behind`.
+// Returns the range of a group after `b`, which was between `before` and `behind`, has left it. None means that no member is
+// left.
 fn narrowed(range: Range, b: BufId, before: BufId, behind: BufId) -> Option<Range>
     ensures { result ≡ words.narrowed range b before behind }
 {
@@ -101,7 +102,7 @@ fn narrowed(range: Range, b: BufId, before: BufId, behind: BufId) -> Option<Rang
     }
 }
 
-// The same where there may be none.
+// Returns the range of a group, if it has one, after `b`, which had the links `links`, has left it.
 fn narrowed_in(range: Option<Range>, b: BufId, links: Links) -> Option<Range>
     ensures { result ≡ words.narrowed_in range b (words.buffer_of links.prev b) (words.buffer_of links.next b) }
 {
@@ -111,7 +112,7 @@ fn narrowed_in(range: Option<Range>, b: BufId, links: Links) -> Option<Range>
     }
 }
 
-// The range of a group after `b` has joined it after the last.
+// Returns the range of a group after `b` has joined it as the last member.
 fn widened(range: Option<Range>, b: BufId) -> Range
     ensures { result ≡ words.widened range b }
 {
@@ -121,7 +122,7 @@ fn widened(range: Option<Range>, b: BufId) -> Range
     }
 }
 
-// Ends that lead to themselves.
+// Returns twelve ends that are linked to themselves.
 fn closed_ends(alloc: Global) -> Result<ItemList<Links>, NoMemory>
     ensures { IfOk result (λ ends. words.AreClosed 12 ends) }
 {
@@ -140,7 +141,7 @@ impl Rings {
     ghost use Rattle.lru_bulk.specs.Sound.{links_at, next_at, prev_at, listings_of, lists_of, order_of, range_for, ranges_left, ranges_joined, IsWhole};
     ghost use Rattle.lru_bulk.specs.Relinks.{IsSpot, SameRest, Tied, led};
 
-    /// Rings with no node, for so many buffers and groups.
+    /// Returns rings without nodes, for `buffers` buffers and `groups` groups.
     pub(crate) fn new(alloc: Global, buffers: u32, groups: u32) -> Result<Rings, NoMemory>
         ensures sound { IfOk result (λ rings. IsWhole rings None) }
         ensures order { IfOk result (λ rings. order_of rings ≡ nothing_listed buffers groups) }
@@ -156,7 +157,7 @@ impl Rings {
         })
     }
 
-    /// The links of a spot. A walk knows which kind of spot it asks for: inside it the other kind goes away.
+    /// Returns the links of a spot. A walk knows which kind of spot it asks for, so that inlining removes the other case.
     #[inline(always)]
     pub(crate) fn links(&self, spot: Spot) -> Links
         requires { IsSpot self.now spot }
@@ -168,7 +169,7 @@ impl Rings {
         }
     }
 
-    // Puts other links in the place of a spot's.
+    // Replaces the links of a spot.
     fn put_links(&mut self, spot: Spot, links: Links)
         requires { IsSpot self.old spot }
         ensures at { links_at self.new spot ≡ links }
@@ -184,7 +185,7 @@ impl Rings {
         }
     }
 
-    // Writes one link: the one place where links change. It counts a step.
+    // Writes one link, and counts a step. Links change nowhere else.
     fn set_link<L: Ledger>(&mut self, at: Spot, way: Way, to: Spot, steps: &mut Steps<L>)
         requires { IsSpot self.old at }
         ensures at { links_at self.new at ≡ led (links_at self.old at) way to }
@@ -201,7 +202,7 @@ impl Rings {
         steps.tick();
     }
 
-    // Leads one spot to another, and that one back.
+    // Links `left` to `right`, and `right` back to `left`.
     pub(crate) fn tie<L: Ledger>(&mut self, left: Spot, right: Spot, steps: &mut Steps<L>)
         requires left { IsSpot self.old left }
         requires right { IsSpot self.old right }
@@ -213,7 +214,7 @@ impl Rings {
         self.set_link(right, Way::Prev, left, steps);
     }
 
-    // The range of a group in a list.
+    // Returns the range of a group in a list, if it has one there.
     pub(crate) fn range(&self, group: Option<u32>, list: usize) -> Option<Range>
         requires group { IsGroup self.now.groups group }
         requires list { list < 12 }
@@ -226,7 +227,7 @@ impl Rings {
         }
     }
 
-    // The range of a group after `b`, which had these links, has left it.
+    // Updates the range of a group after `b`, which had the links `links`, has left it.
     pub(crate) fn narrow(&mut self, listing: Listing, b: BufId, links: Links)
         requires prio { listing.prio < 4 }
         requires group { IsGroup self.old.groups listing.group }
@@ -240,7 +241,7 @@ impl Rings {
         }
     }
 
-    // The range of a group after `b` has joined it.
+    // Updates the range of a group after `b` has joined it.
     pub(crate) fn widen(&mut self, listing: Listing, b: BufId)
         requires prio { listing.prio < 4 }
         requires group { IsGroup self.old.groups listing.group }
@@ -254,7 +255,8 @@ impl Rings {
         }
     }
 
-    // The spot after which one more of the group stands: its last member's, or that of the list's last node.
+    // Returns the spot after which the next member of the group is put: that of its last member, or else that of the last
+    // node of the list.
     pub(crate) fn spot_before(&self, group: Option<u32>, list: usize) -> Spot
         requires group { IsGroup self.now.groups group }
         requires list { list < 12 }

@@ -8,7 +8,7 @@ abbrev pub grown : ℕ → ℕ → ℕ → ℕ → ℕ
 grown zero start end size = size
 grown (suc n) start end size = if start % (2 * size) == 0 && nat_le (start + 2 * size) end then grown n start end (2 * size) else size
 
--- the largest block at the start, and so on; the first argument bounds the blocks
+-- the blocks from the start on, each the largest that fits; the first argument bounds their number
 abbrev pub blocks_from : ℕ → ℕ → ℕ → List Span
 blocks_from zero start end = []
 blocks_from (suc n) start end =

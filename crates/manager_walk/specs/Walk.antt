@@ -5,25 +5,25 @@ use Rattle.ttm_base.specs.declared.Span.{Span}
 use Rattle.ttm_base.specs.Holes.{has_page, is_free_beside}
 use Rattle.hole_tree.specs.HoleSet.{starts_at}
 
--- no held span begins at one of the pages from one page up to another
+-- no held span begins at one of the pages from `from` up to `to`
 abbrev pub NoneFrom : List Span → ℕ → ℕ → Type 0
 NoneFrom held from to = (page : ℕ) → from ≤ page → page < to → find (starts_at page) held ≡ None
 
--- the first held span that begins at a page or above it
+-- `s` is the first held span that begins at page `low` or above it
 pub record IsNextHeld (held : List Span) (low : ℕ) (s : Span) : Type 0 where
   pub above : low ≤ s.start
   pub is_held : find (starts_at s.start) held ≡ Some s
   pub first : NoneFrom held low s.start
 
--- there is such a page, and no held span has it
+-- the page is one of the manager's, and no held span has it
 abbrev pub is_open : List Span → ℕ → ℕ → Bool
 is_open held size page = nat_lt page size && is_free_beside held page
 
--- none of the pages from one page up to another is free
+-- none of the pages from `from` up to `to` is free
 abbrev pub NoneOpen : List Span → ℕ → ℕ → ℕ → Type 0
 NoneOpen held size from to = (page : ℕ) → from ≤ page → page < to → is_open held size page ≡ false
 
--- the first free pages at a page or above it, up to where a held span begins or to the end
+-- `s` has the first free pages from page `low` on, up to where a held span begins or to the end
 pub record IsNextHole (held : List Span) (size low : ℕ) (s : Span) : Type 0 where
   pub above : low ≤ s.start
   pub some : s.start < s.end

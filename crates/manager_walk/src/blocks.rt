@@ -9,13 +9,14 @@ use buddy_manager::{AllocFault, BuddyFlags, BuddyManager};
 use std::alloc::Global;
 use ttm_base::{NoMemory, Span, Spans};
 
-/// One block, the lowest of those from the smallest.
+/// The flags for one block, the lowest of those from the smallest.
 const ALONE: BuddyFlags = BuddyFlags {
     topdown: false,
     contig: true,
 };
 
-/// Finds the first block that is held from `from` or a later page on, in a manager of `size` pages. It costs a step a page.
+/// Returns the first block that is held from page `from` or a later page on, in a manager of `size` pages, or None where none is. Costs a step for
+/// each page.
 #[tactic(auto, using(crate::proofs::OpenLaws::none_to_next, crate::proofs::OpenLaws::next_at))]
 pub fn next_block(manager: &BuddyManager, size: u32, from: u32) -> Option<Span>
     requires { manager.now.size ≡ size }
@@ -30,7 +31,7 @@ pub fn next_block(manager: &BuddyManager, size: u32, from: u32) -> Option<Span>
     None
 }
 
-/// A page is free. The list is for the answer of the search, and is empty after it.
+/// Returns whether page `page` is free. `room` is for the answer of the search; it is empty before and after.
 fn is_open(manager: &mut BuddyManager, page: u32, room: &mut Spans) -> Result<bool, NoMemory>
     requires page { page + 1 < 2 ^ 32 }
     requires empty { room.old ≡ [] }
@@ -48,7 +49,7 @@ fn is_open(manager: &mut BuddyManager, page: u32, room: &mut Spans) -> Result<bo
     }
 }
 
-/// The holes of a manager.
+/// Returns the holes of a manager.
 fn holes(alloc: Global, manager: &mut BuddyManager) -> Result<Spans, NoMemory>
     ensures holes { IfOk result (λ found. found ≡ holes (is_free_beside manager.old.held) manager.old.size) }
     ensures same { manager.new ≡ manager.old }
@@ -65,7 +66,7 @@ fn holes(alloc: Global, manager: &mut BuddyManager) -> Result<Spans, NoMemory>
     Ok(found)
 }
 
-/// The size of the largest block from a page on that ends by another page. It is doubled so often at most.
+/// Returns the size in pages of the largest block from page `from` on that ends by page `to`. It is doubled at most `times` times.
 fn grown(times: u32, from: u64, to: u64) -> u64
     requires some { from < to }
     requires most { to < 2 ^ 32 }
@@ -82,7 +83,7 @@ fn grown(times: u32, from: u64, to: u64) -> u64
     size
 }
 
-/// The largest block from a page on that ends by another page.
+/// Returns the largest block from page `start` on that ends by page `end`.
 fn block_from(start: u32, end: u32) -> Span
     requires { start < end }
     ensures { result ≡ record { start = start; end = start + grown 32 start end 1 } }
@@ -94,7 +95,7 @@ fn block_from(start: u32, end: u32) -> Span
     }
 }
 
-/// Puts a hole's blocks after others.
+/// Appends the blocks of `hole` to `blocks`.
 fn put_blocks(blocks: &mut Spans, hole: Span) -> Result<(), NoMemory>
     ensures { OnOk result (blocks.new ≡ blocks.old ++ blocks_of hole) }
 {
@@ -110,7 +111,7 @@ fn put_blocks(blocks: &mut Spans, hole: Span) -> Result<(), NoMemory>
     Ok(())
 }
 
-/// The free blocks of a manager, each as large as it can be. It costs a search a page.
+/// Returns the free blocks of a manager, each as large as it can be. Costs a search for each page. The manager stays as it was.
 pub fn free_blocks(alloc: Global, manager: &mut BuddyManager) -> Result<Spans, NoMemory>
     ensures blocks { IfOk result (λ blocks. blocks ≡ free_list (is_free_beside manager.old.held) manager.old.size) }
     ensures same { manager.new ≡ manager.old }

@@ -7,7 +7,7 @@ use range_manager::RangeManager;
 use std::alloc::Global;
 use ttm_base::{NoMemory, Span, Spans};
 
-/// Puts a free page after all holes so far: it widens the last one that it touches, or is a new one.
+/// Adds the free page `page`, which is above all `holes` so far: it widens the last one that it touches, or is a new one.
 pub(crate) fn add_page(holes: &mut Spans, page: u32) -> Result<(), NoMemory>
     requires { page + 1 < 2 ^ 32 }
     ensures { OnOk result (holes.new ≡ with_page page holes.old) }
@@ -32,7 +32,7 @@ pub(crate) fn add_page(holes: &mut Spans, page: u32) -> Result<(), NoMemory>
     })
 }
 
-/// The holes of a manager. It costs a search a page.
+/// Returns the holes of a manager. Costs a search for each page.
 pub fn holes(alloc: Global, manager: &RangeManager) -> Result<Spans, NoMemory>
     ensures { IfOk result (λ found. found ≡ holes (is_free_beside manager.now.held) manager.now.size) }
 {

@@ -4,7 +4,8 @@ ghost use Rattle.manager_walk.specs.Walk.{is_open, IsNextHeld, IsNextHole, NoneF
 use range_manager::RangeManager;
 use ttm_base::{Mode, Span};
 
-/// Finds the first span that is held from `from` or a later page on, in a manager of `size` pages. It costs a step a page.
+/// Returns the first span that is held from page `from` or a later page on, in a manager of `size` pages, or None where none is. Costs a step for
+/// each page.
 #[tactic(auto, using(crate::proofs::OpenLaws::none_to_next, crate::proofs::OpenLaws::next_at))]
 pub fn next_held(manager: &RangeManager, size: u32, from: u32) -> Option<Span>
     requires { manager.now.size ≡ size }
@@ -20,7 +21,7 @@ pub fn next_held(manager: &RangeManager, size: u32, from: u32) -> Option<Span>
     None
 }
 
-/// A page is free. It costs a search.
+/// Returns whether page `page` is free. Costs a search.
 #[tactic(auto, using(crate::proofs::OpenLaws::open_by_choice))]
 pub fn is_open(manager: &RangeManager, page: u32) -> bool
     requires { page + 1 < 2 ^ 32 }
@@ -29,7 +30,7 @@ pub fn is_open(manager: &RangeManager, page: u32) -> bool
     manager.choice(1, 1, page, page + 1, Mode::Low).is_some()
 }
 
-/// The first page at a page or above it that is free.
+/// Returns the first free page from `from` on, or None where none is free.
 #[tactic(auto, using(crate::proofs::OpenLaws::closed_to_next))]
 fn next_open(manager: &RangeManager, size: u32, from: u32) -> Option<u32>
     requires { manager.now.size ≡ size }
@@ -47,8 +48,8 @@ fn next_open(manager: &RangeManager, size: u32, from: u32) -> Option<u32>
     None
 }
 
-/// The first free pages at a page or above it, up to where a held span begins. It costs a search for each page up to the first that is
-/// free, and a step for each one that is free with it.
+/// Returns the first free pages from page `from` on, up to where a held span begins, or None where none is free. Costs a search for each page up to
+/// the first that is free, and a step for each one that is free with it.
 #[tactic(auto, using(crate::proofs::OpenLaws::hole_at))]
 pub fn next_hole(manager: &RangeManager, size: u32, from: u32) -> Option<Span>
     requires { manager.now.size ≡ size }

@@ -14,7 +14,7 @@ use Rattle.map_access.specs.declared.access.Access as rust
 abbrev pub is_way_of : ℕ → ℕ → Mark → Bool
 is_way_of thread n m = (m.thread == thread) && (m.after == n) && is_mapped m.kind
 
--- a mapping with this end has ended before the command that follows n others
+-- a mapping with this end has ended before the command that follows `n` others
 abbrev pub has_ended_by : Option ℕ → ℕ → Bool
 has_ended_by None n = false
 has_ended_by (Some e) n = nat_le e n
@@ -23,11 +23,11 @@ has_ended_by (Some e) n = nat_le e n
 abbrev pub paged : Access → rust.Access
 paged a = record { b = a.b; first = a.off / 4096; end = (a.off + a.len + 4095) / 4096 }
 
--- the access of an entry, if it is the result of a peek or poke of the thread, which has answered so many commands
+-- the access of an entry, if it is the result of a peek or poke of the thread, which has answered `n` commands
 abbrev pub access_in : Script → ℕ → ℕ → Entry → Option Access
 access_in script thread n e =
     elim (e.kind) [ kind.Result r ↦ if is_by_thread thread e.who then peek_or_poke script thread n else None | _ ↦ None ]
 
--- the command after which the mapping of a buffer stands through which a command goes
+-- after how many commands the mapping of buffer `b` stands through which the command that follows `n` others goes
 abbrev pub mapped_from : Script → ℕ → ℕ → BufId → Option ℕ
 mapped_from script thread n b = option_map (λ m. m.from) (mapping_at script thread n (record { b = b; off = 0; len = 0 }))

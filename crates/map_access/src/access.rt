@@ -12,7 +12,7 @@ use journal_model::{Command, Entry, Kind, Mark, MarkKind, Script};
 use ttm_base::limits::PAGE_BYTES;
 use ttm_base::{Actor, BufId};
 
-/// The bytes of a page.
+/// The size of a page in bytes.
 const PAGE: u64 = PAGE_BYTES as u64;
 
 /// Pages of a buffer that a command reads or writes: the first, and the one after the last.
@@ -23,7 +23,7 @@ pub struct Access {
     pub end: u64,
 }
 
-/// The page after the last one of a range.
+/// Returns the page after the last one of the range of `len` bytes from `off` on.
 #[tactic(auto, using(crate::proofs::Pages::end_by_parts))]
 fn end_of_range(off: u64, len: u64) -> u64
     requires { off < 4294967296 }
@@ -32,7 +32,7 @@ fn end_of_range(off: u64, len: u64) -> u64
     off / PAGE + len / PAGE + (off % PAGE + len % PAGE + PAGE - 1) / PAGE
 }
 
-/// The pages of a range.
+/// Returns the pages of the range of `len` bytes of buffer `b` from `off` on.
 fn paged(b: BufId, off: u32, len: u64) -> Access
     ensures { result ≡ paged (record { b = b; off = off; len = len }) }
 {
@@ -44,7 +44,7 @@ fn paged(b: BufId, off: u32, len: u64) -> Access
     }
 }
 
-/// The pages that a command reads or writes.
+/// Returns the pages that `command` reads or writes, or None where it does neither.
 fn access_of(command: &Command) -> Option<Access>
     ensures { result ≡ option_map paged (words.access_of command.now) }
 {
@@ -55,7 +55,7 @@ fn access_of(command: &Command) -> Option<Access>
     }
 }
 
-/// The command of a thread that follows so many.
+/// Returns the command of `thread` that follows `n` others, or None where there is none.
 fn command_at(script: &Script, thread: u64, n: u64) -> Option<&Command>
     ensures { option_copied result ≡ slice_get (commands_of script.now thread) n }
 {
@@ -66,7 +66,7 @@ fn command_at(script: &Script, thread: u64, n: u64) -> Option<&Command>
     commands.items().get(n as usize)
 }
 
-/// The line above the command makes it a peek or poke.
+/// Returns whether `mark`, a line above the command that follows `n` others, makes it a peek or poke.
 fn is_way_of(thread: u64, n: u64, mark: &Mark) -> bool
     ensures { result ≡ is_way_of thread n mark.now }
 {
@@ -75,7 +75,7 @@ fn is_way_of(thread: u64, n: u64, mark: &Mark) -> bool
         && matches!(mark.kind, MarkKind::Mapped)
 }
 
-/// A line above the command makes it a peek or poke.
+/// Returns whether some line above the command that follows `n` others makes it a peek or poke.
 fn has_way(all: &[Mark], thread: u64, n: u64) -> bool
     ensures { result ≡ list_any (is_way_of thread n) all.now }
 {
@@ -88,7 +88,7 @@ fn is_mapped_at(script: &Script, thread: u64, n: u64) -> bool
     has_way(script.marks.items(), thread, n)
 }
 
-/// The pages of a command, if it is a peek or poke.
+/// Returns the pages of the command of `thread` that follows `n` others, if it is a peek or poke.
 fn peek_or_poke(script: &Script, thread: u64, n: u64) -> Option<Access>
     ensures { result ≡ option_map paged (words.peek_or_poke script.now thread n) }
 {
@@ -107,7 +107,7 @@ pub fn is_by_thread(thread: u64, who: Actor) -> bool
     }
 }
 
-/// The pages of a peek or poke of the thread, which has answered `n` commands, if the entry is its result.
+/// Returns the pages of a peek or poke of `thread`, which has answered `n` commands, if `entry` is its result.
 pub fn access_in(script: &Script, thread: u64, n: u64, entry: &Entry) -> Option<Access>
     ensures { result ≡ option_map paged (access_in script.now thread n entry.now) }
 {
@@ -125,7 +125,7 @@ pub fn access_in(script: &Script, thread: u64, n: u64, entry: &Entry) -> Option<
 
 // ---- mappings
 
-/// The line ends the thread's mapping of the buffer.
+/// Returns whether the line `mark` ends the mapping that `thread` has of buffer `b`.
 fn unmaps(thread: u32, b: BufId, mark: &Mark) -> bool
     ensures { result ≡ words.unmaps thread b mark.now }
 {
@@ -135,14 +135,14 @@ fn unmaps(thread: u32, b: BufId, mark: &Mark) -> bool
     }
 }
 
-/// The first such line.
+/// Returns the first line of `behind` that ends the mapping that `thread` has of buffer `b`.
 fn unmap_line(behind: &[Mark], thread: u32, b: BufId) -> Option<&Mark>
     ensures { option_copied result ≡ find (words.unmaps thread b) behind.now }
 {
     behind.iter().find(|mark| unmaps(thread, b, mark))
 }
 
-/// A mapping has ended before the command that follows `n` others.
+/// Returns whether the mapping that `thread` has of buffer `b` has ended before the command that follows `n` others.
 fn has_ended(behind: &[Mark], thread: u32, b: BufId, n: u64) -> bool
     ensures { result ≡ has_ended_by (words.end_of thread b behind.now) n }
 {
@@ -152,7 +152,7 @@ fn has_ended(behind: &[Mark], thread: u32, b: BufId, n: u64) -> bool
     }
 }
 
-/// The line begins a mapping of the buffer through which the command goes.
+/// Returns whether the line `mark` begins a mapping of buffer `b` through which the command that follows `n` others goes.
 fn begins(mark: &Mark, behind: &[Mark], thread: u64, n: u64, b: BufId) -> bool
     ensures { result ≡ list_any (λ m. is_through m thread n (record { b = b; off = 0; len = 0 })) (mapping_of mark.now behind.now mark.now.kind) }
 {
@@ -167,7 +167,7 @@ fn begins(mark: &Mark, behind: &[Mark], thread: u64, n: u64, b: BufId) -> bool
     }
 }
 
-/// The command after which the mapping stands through which a command goes, if there is one.
+/// Returns after how many commands the mapping stands through which the command that follows `n` others goes, or None where there is no mapping.
 pub fn mapped_from(script: &Script, thread: u64, n: u64, b: BufId) -> Option<u64>
     ensures { result ≡ mapped_from script.now thread n b }
 {

@@ -6,11 +6,11 @@ use Rattle.journal_model.specs.declared.script.MarkKind.TheVariants as mark
 use Rattle.cpu_maps.specs.declared.area.Area.{Area}
 use Rattle.cpu_maps.specs.Areas.{unmapped}
 
--- after a line of the thread
+-- the areas after a line of the thread
 abbrev pub behind_line : ℕ → MarkKind → List Area → List Area
 behind_line thread (mark.Unmap b) areas = map (unmapped thread b) areas
 behind_line thread _ areas = areas
 
--- after a line, if it is the thread's and follows so many of its commands
+-- the areas after a line, if it is the thread's and follows `n` of its commands
 abbrev pub with_end : ℕ → ℕ → List Area → Mark → List Area
 with_end thread n areas m = if (m.thread == thread) && (m.after == n) then behind_line thread m.kind areas else areas

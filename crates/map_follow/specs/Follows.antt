@@ -17,11 +17,11 @@ use Rattle.cpu_maps.specs.declared.area.Area.{Area}
 use Rattle.cpu_maps.specs.Areas.{entry_in, is_of}
 use Rattle.law_legal.specs.law_maps.Following.{page_there}
 
--- the mapping of a buffer by a thread that follows so many of its commands
+-- the mapping of buffer `b` by the thread that stands after `n` of its commands
 abbrev pub standing : Script → ℕ → ℕ → BufId → Option Mapping
 standing script thread n b = mapping_at script thread n (record { b = b; off = 0; len = 0 })
 
--- the entry that it has for a page after a journal
+-- the entry that the thread's mapping has for page `i` of buffer `b` after a journal
 abbrev pub known : Script → List Made → ℕ → BufId → ℕ → Option Page
 known script made thread b i = option_and_then (λ m. mapped_entry script made m i) (standing script thread (count_answers thread made) b)
 
@@ -35,7 +35,7 @@ KnowExactly script made areas = (thread : ℕ) (b : BufId) (i : ℕ) → option_
 abbrev pub maps_for : ℕ → BufId → Mark → Bool
 maps_for thread b m = (m.thread == thread) && elim m.kind [ mark.Map c ↦ same_buffer b c | _ ↦ false ]
 
--- for how many pages a thread's mapping of a buffer has room
+-- the number of pages for which the thread's mapping of buffer `b` has room
 abbrev pub room_of : ℕ → BufId → List Area → Option ℕ
 room_of thread b areas = option_map (λ a. length a.entries) (find (is_of thread b) areas)
 

@@ -9,8 +9,8 @@ use cpu_maps::CpuMaps;
 use journal_model::{Kind, MarkKind, Script};
 use ttm_base::{Loc, Mem, Span};
 
-/// Gives the thread's mapping an entry for each page that its access found, of a buffer that stands in this memory type, with these spans and
-/// this page table.
+/// Gives the thread's mapping an entry for each page that its access found, of a buffer that stands in the memory type `mem`, with the spans `spans`
+/// and the page table `table`.
 pub fn fault_in(maps: &mut CpuMaps, found: Found, mem: Mem, spans: &[Span], table: &[Loc])
     requires { found.pages.end < 2 ^ 32 }
     ensures { maps.new ≡ with_found found mem spans.now table.now maps.old }
@@ -23,7 +23,7 @@ pub fn fault_in(maps: &mut CpuMaps, found: Found, mem: Mem, spans: &[Span], tabl
     }
 }
 
-/// Takes out the entries of those pages that leave by an entry.
+/// Removes the entries of those pages that leave their places by an entry of `kind`.
 pub fn leave(maps: &mut CpuMaps, kind: &Kind)
     ensures { maps.new ≡ areas_behind kind.now maps.old }
 {
@@ -35,7 +35,7 @@ pub fn leave(maps: &mut CpuMaps, kind: &Kind)
     }
 }
 
-/// Takes out the entries of those mappings that end once the thread has answered so many commands.
+/// Removes the entries of those mappings that end once `thread` has answered `answered` commands.
 pub fn end_mappings(maps: &mut CpuMaps, script: &Script, thread: u32, answered: u64)
     ensures { maps.new ≡ fold (words.with_end thread answered) maps.old script.now.marks }
 {

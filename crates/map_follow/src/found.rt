@@ -15,7 +15,7 @@ pub struct Found {
     pub pages: Access,
 }
 
-/// The thread that an entry answers.
+/// Returns the thread that `entry` answers, or None where it answers none.
 pub fn answerer(entry: &Entry) -> Option<u32>
     ensures { result ≡ follows.answerer entry.now }
 {
@@ -25,7 +25,8 @@ pub fn answerer(entry: &Entry) -> Option<u32>
     }
 }
 
-/// The pages that an entry's access finds, if the entry is the result of a peek or poke. Its thread has answered so many commands before.
+/// Returns the pages that the access of `entry` finds, if the entry is the result of a peek or poke. Its thread has answered `answered` commands
+/// before.
 pub fn found_by(script: &Script, answered: u64, entry: &Entry) -> Option<Found>
     ensures { result ≡ words.found_by script.now answered entry.now }
 {
@@ -37,7 +38,7 @@ pub fn found_by(script: &Script, answered: u64, entry: &Entry) -> Option<Found>
     Some(Found { thread, pages })
 }
 
-/// A frame, as it is named.
+/// Returns how a page with the place `place` is named: by its frame, or None where it has none.
 fn framed(place: Loc) -> Option<PagePlace>
     ensures { result ≡ words.framed place }
 {
@@ -47,7 +48,7 @@ fn framed(place: Loc) -> Option<PagePlace>
     }
 }
 
-/// The page of VRAM or the frame at which a page of a buffer stands.
+/// Returns the page of VRAM or the frame at which page `page` of a buffer stands, or None where it has neither.
 pub(crate) fn place_of(mem: Mem, spans: &[Span], table: &[Loc], page: u32) -> Option<PagePlace>
     ensures { result ≡ words.place_of mem spans.now table.now page }
 {

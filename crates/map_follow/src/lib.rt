@@ -9,12 +9,12 @@ ghost use Rattle.map_follow.specs.Laws.{EntriesAreFollowed, NewAreasFollow};
 pub use follow::{end_mappings, fault_in, leave};
 pub use found::{Found, answerer, found_by};
 
-/// Areas that follow a legal journal follow it by one more entry.
+/// States that areas that follow a legal journal follow it by one more entry.
 pub fn entries_are_followed()
     ensures { EntriesAreFollowed }
 {}
 
-/// The areas of a script follow a journal without an entry.
+/// States that the areas of a script follow a journal without an entry.
 pub fn new_areas_follow()
     ensures { NewAreasFollow }
 {}

@@ -1,4 +1,4 @@
--- What C asks for, in the managers' words.
+-- What C asks for, in the terms of the managers.
 use Rattle.std.specs.Prelude.{ℕ, ◌==◌, ◌%◌, ◌/◌, ◌&&◌, Bool, nat_lt, List, Option, Some, None, max, map, take, if◌then◌else◌}
 use Rattle.ttm_base.specs.declared.Span.{Span}
 use Rattle.ttm_base.specs.declared.Mode.{Mode}
@@ -20,7 +20,7 @@ first_spans n spans = map span_of (take n spans)
 abbrev pub mode_of : ℕ → Option Mode
 mode_of n = if n == 0 then Some Best else if n == 1 then Some Low else if n == 2 then Some High else None
 
--- the pages that an insert takes; an align of 0 is none
+-- the pages that an insert takes; an align of 0 asks for no alignment
 abbrev pub range_for : State → ℕ → ℕ → ℕ → Span → Option Span
 range_for m mode pages align range = elim (mode_of mode) [
   | Some md ↦ range_choice md (holes (is_free_beside m.held) m.size) pages (max 1 align) range
@@ -34,7 +34,7 @@ is_topdown flags = flags % 2 == 1
 abbrev pub is_contiguous : ℕ → Bool
 is_contiguous flags = flags / 2 % 2 == 1
 
--- it asks for pages, by known flags
+-- the request is for pages, with known flags
 abbrev pub is_block_request : BlockRequest → Bool
 is_block_request r = nat_lt 0 r.pages && nat_lt r.flags 4
 

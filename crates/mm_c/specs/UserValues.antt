@@ -1,4 +1,4 @@
--- Values of the caller's own, by the pages where they were set.
+-- Values that the caller sets, by the pages where they were set.
 use Rattle.std.specs.Prelude.{ℕ, List, unwrap_or}
 use Rattle.std.specs.Ordering.{nat_cmp}
 use Rattle.std.specs.BTreeMap.{is_at}

@@ -47,7 +47,8 @@ pub extern "C" fn pearoar_blocks_destroy(alloc: Global, blocks: &mut BlockHandle
     drop(blocks.take(alloc).into_box());
 }
 
-/// Takes blocks for `pages` pages, from `first` up to `last` (drm_buddy_alloc_blocks).
+/// Takes blocks for the pages that `request` asks for, from its `first` up to its `last`, and writes them to `out` and their number to `count`
+/// (drm_buddy_alloc_blocks).
 #[unsafe(no_mangle)]
 pub extern "C" fn pearoar_blocks_alloc(
     alloc: Global,
@@ -76,7 +77,7 @@ pub extern "C" fn pearoar_blocks_alloc(
     status
 }
 
-/// Gives a block back, as it was given out or as a trim left it (drm_buddy_free_block). It takes no memory.
+/// Gives a block back, as it was given out or as a trim left it (drm_buddy_free_block). Takes no memory.
 #[unsafe(no_mangle)]
 pub extern "C" fn pearoar_blocks_release(
     alloc: Global,
@@ -99,7 +100,7 @@ pub extern "C" fn pearoar_blocks_release(
     status
 }
 
-/// Gives back the pages of a block beyond the first `keep` (drm_buddy_block_trim). It takes no memory.
+/// Gives back the pages of a block beyond the first `keep` (drm_buddy_block_trim). Takes no memory.
 #[unsafe(no_mangle)]
 pub extern "C" fn pearoar_blocks_trim(
     alloc: Global,
@@ -126,7 +127,7 @@ pub extern "C" fn pearoar_blocks_trim(
     status
 }
 
-/// Sets the caller's value of the block that begins at a page.
+/// Sets the caller's value of the block that begins at page `start`.
 #[unsafe(no_mangle)]
 pub extern "C" fn pearoar_blocks_set_value(
     alloc: Global,
@@ -149,7 +150,7 @@ pub extern "C" fn pearoar_blocks_set_value(
     status
 }
 
-/// Tells the caller's value of the block that begins at a page, which is 0 until it is set. It takes no memory.
+/// Writes the caller's value of the block that begins at page `start` to `value`; it is 0 until it is set. Takes no memory.
 #[unsafe(no_mangle)]
 pub extern "C" fn pearoar_blocks_value(
     alloc: Global,
@@ -170,7 +171,7 @@ pub extern "C" fn pearoar_blocks_value(
     status
 }
 
-/// Counts what is held and what is free. It takes memory, and costs a search a page.
+/// Counts what is held and what is free. Takes memory, and costs a search for each page.
 #[unsafe(no_mangle)]
 pub extern "C" fn pearoar_blocks_stats(
     alloc: Global,
@@ -192,7 +193,7 @@ pub extern "C" fn pearoar_blocks_stats(
     status
 }
 
-/// How many pages are free, and how many are held. It takes no memory.
+/// Writes how many pages are free, and how many are held. Takes no memory.
 #[unsafe(no_mangle)]
 pub extern "C" fn pearoar_blocks_lengths(
     alloc: Global,
@@ -211,7 +212,7 @@ pub extern "C" fn pearoar_blocks_lengths(
     blocks.put(Parts::of(manager));
 }
 
-/// The first block that begins at a page or above it. It takes no memory, and costs a step a page.
+/// Writes the first block that begins at page `from` or above it to `span`. Takes no memory, and costs a step for each page.
 #[unsafe(no_mangle)]
 pub extern "C" fn pearoar_blocks_next_held(
     alloc: Global,

@@ -24,7 +24,7 @@ impl Model for BlockHandle {
 }
 
 impl BlockHandle {
-    /// The manager; the handle has none then.
+    /// Takes the manager out of the handle, which then has none.
     pub fn take(&mut self, alloc: Global) -> Parts<Blocks, Global>
         requires { self.old.live ≡ true }
         ensures value { result.value ≡ self.old.value }
@@ -36,7 +36,7 @@ impl BlockHandle {
         }
     }
 
-    /// Points to a manager.
+    /// Puts a manager into the handle.
     pub fn put(&mut self, parts: Parts<Blocks, Global>)
         ensures value { self.new.value ≡ parts.value }
         ensures live { self.new.live ≡ true }

@@ -1,4 +1,4 @@
-//! What C asks of a buddy manager.
+//! A buddy manager with the calls that C needs.
 ghost use Rattle.std.specs.Prelude.{◌≡◌, ◌≢◌, ◌↔◌, ℕ, ◌+◌, ◌<◌, ◌≤◌, ◌==◌, true, false, [], ◌∷◌, Some, None, Contains, IfOk, IfSome, IfNone, length, count_by, slice_index, if◌then◌else◌};
 ghost use Rattle.std.specs.List.{find};
 ghost use Rattle.ttm_base.specs.Holes.{is_free_beside};
@@ -22,7 +22,7 @@ use std::alloc::Global;
 use std::marker::Model;
 use ttm_base::{NoMemory, Span, Spans};
 
-/// The orders of blocks, since there are fewer than 2^31 pages.
+/// The number of orders of blocks, since there are fewer than 2^31 pages.
 const ORDERS: usize = 31;
 
 /// A buddy manager, its size, room for the blocks of a call, and the caller's values of the blocks by where they begin.
@@ -30,7 +30,7 @@ const ORDERS: usize = 31;
 pub struct Blocks {
     manager: BuddyManager,
     size: u32,
-    /// The blocks of a call.
+    /// Room for the blocks of a call.
     room: Spans,
     values: Values,
 }
@@ -46,7 +46,7 @@ impl Model for Blocks {
     ghost invariant = { λ b. b.manager.size ≡ b.size };
 }
 
-/// What an alloc asks for.
+/// The request of an alloc.
 #[repr(C)]
 #[derive(Clone, Copy)]
 pub struct BlockRequest {
@@ -56,19 +56,19 @@ pub struct BlockRequest {
     pub flags: u32,
 }
 
-/// What is held and what is free, counted in pages and blocks.
+/// The counts of what is held and what is free, in pages and blocks.
 #[repr(C)]
 #[derive(Clone, Copy)]
 pub struct BlockStats {
     pub free: u32,
     pub held: u32,
-    /// How many blocks are held.
+    /// The number of held blocks.
     pub blocks: usize,
-    /// How many blocks are free, of each order, where each free block is as large as it can be.
+    /// The number of free blocks of each order, where each free block is as large as it can be.
     pub orders: [usize; ORDERS],
 }
 
-/// Counts the blocks of `pages` pages.
+/// Returns how many of `blocks` have `pages` pages.
 fn count_of(blocks: &[Span], pages: u32) -> usize
     ensures { result ≡ count_by (λ block. length_of block == pages) blocks.now }
 {
@@ -78,7 +78,7 @@ fn count_of(blocks: &[Span], pages: u32) -> usize
         .count()
 }
 
-/// Counts blocks by their orders.
+/// Counts `blocks` by their orders into `counts`.
 fn count_orders(blocks: &[Span], counts: &mut [usize])
     requires { length counts.old ≡ 31 }
     ensures { (order : ℕ) → order < 31 → slice_index counts.new order ≡ count_by (has_order order) blocks.now }
@@ -89,7 +89,7 @@ fn count_orders(blocks: &[Span], counts: &mut [usize])
 }
 
 impl BlockRequest {
-    /// It asks for pages, by known flags.
+    /// Returns whether the request is for pages, with known flags.
     fn is_valid(&self) -> bool
         ensures { result ≡ is_block_request self.now }
     {
@@ -117,7 +117,7 @@ fn status_of(fault: AllocFault) -> u32
     }
 }
 
-/// Finds the held block that begins at `start`.
+/// Returns the held block that begins at page `start`, or None where there is none.
 fn block_from(manager: &BuddyManager, start: u32) -> Option<Span>
     ensures { result ≡ find (starts_at start) manager.now.held }
 {
@@ -140,7 +140,7 @@ impl Blocks {
         Box::new(alloc, blocks).map_err(|_| NoMemory)
     }
 
-    /// Takes blocks, writes them to the front of an array, and tells how many they are.
+    /// Takes the blocks that `request` asks for, writes them to the front of `out`, and writes their number to `count`.
     pub fn alloc(&mut self, request: BlockRequest, out: &mut [PageSpan], count: &mut usize) -> u32
         ensures size { self.new.size ≡ self.old.size }
         ensures room { length out.new ≡ length out.old }
@@ -177,7 +177,7 @@ impl Blocks {
         DONE
     }
 
-    /// Gives a block back, as it was given out or as a trim left it.
+    /// Gives `block` back, as it was given out or as a trim left it.
     pub fn release(&mut self, block: Span) -> u32
         ensures size { self.new.size ≡ self.old.size }
         ensures held { result ≡ DONE → self.new.held ≡ without block self.old.held }
@@ -194,7 +194,7 @@ impl Blocks {
         DONE
     }
 
-    /// Gives back the pages of a block beyond the first `keep`.
+    /// Gives back the pages of `block` beyond the first `keep`.
     pub fn trim(&mut self, block: Span, keep: u32) -> u32
         ensures size { self.new.size ≡ self.old.size }
         ensures held { result ≡ DONE → self.new.held ≡ with_block (record { start = block.start; end = block.start + keep }) (without block self.old.held) }
@@ -216,7 +216,7 @@ impl Blocks {
         DONE
     }
 
-    /// Sets the caller's value of the block that begins at a page.
+    /// Sets the caller's value of the block that begins at page `start`.
     pub fn set_value(&mut self, start: u32, value: u64) -> u32
         ensures size { self.new.size ≡ self.old.size }
         ensures held { self.new.held ≡ self.old.held }
@@ -234,7 +234,7 @@ impl Blocks {
         }
     }
 
-    /// Tells the caller's value of the block that begins at a page.
+    /// Writes the caller's value of the block that begins at page `start` to `value`.
     pub fn value(&self, start: u32, value: &mut u64) -> u32
         ensures value { result ≡ DONE → value.new ≡ value_at self.now.values start }
         ensures not_held { (result ≡ NOT_HELD) ↔ (find (starts_at start) self.now.held ≡ None) }
@@ -247,7 +247,7 @@ impl Blocks {
         DONE
     }
 
-    /// Counts what is held and what is free. After a refusal nothing is told.
+    /// Counts what is held and what is free. After a refusal `stats` tells nothing.
     pub fn stats(&mut self, alloc: Global, stats: &mut BlockStats) -> u32
         ensures same { self.new ≡ self.old }
         ensures held { result ≡ DONE → stats.new.held ≡ pages_of self.old.held }
@@ -265,7 +265,7 @@ impl Blocks {
         DONE
     }
 
-    /// How many pages are free, and how many are held.
+    /// Returns how many pages are free, and how many are held.
     pub fn lengths(&self) -> (u32, u32)
         ensures used { result.1 ≡ pages_of self.now.held }
         ensures sum { result.0 + result.1 ≡ self.now.size }

@@ -23,7 +23,7 @@ impl PageSpan {
     }
 }
 
-/// Writes spans to the front of an array.
+/// Writes `spans` to the front of `out`.
 pub fn write(spans: &[Span], out: &mut [PageSpan])
     requires { length spans.now ≤ length out.old }
     ensures spans { first_spans (length spans.now) out.new ≡ spans.now }

@@ -47,7 +47,7 @@ pub extern "C" fn pearoar_ranges_destroy(alloc: Global, ranges: &mut RangeHandle
     drop(ranges.take(alloc).into_box());
 }
 
-/// Takes `pages` pages at a multiple of `align`, from `first` up to `last` (drm_mm_insert_node_in_range).
+/// Takes the pages that `request` asks for, at a multiple of its `align`, from its `first` up to its `last` (drm_mm_insert_node_in_range).
 #[unsafe(no_mangle)]
 pub extern "C" fn pearoar_ranges_insert(
     alloc: Global,
@@ -97,7 +97,7 @@ pub extern "C" fn pearoar_ranges_reserve(
     status
 }
 
-/// Lets the span go that begins at a page (drm_mm_remove_node). It takes no memory.
+/// Frees the span that begins at page `start` (drm_mm_remove_node). Takes no memory.
 #[unsafe(no_mangle)]
 pub extern "C" fn pearoar_ranges_remove(alloc: Global, ranges: &mut RangeHandle, start: u32) -> u32
     requires live { ranges.old.live ≡ true }
@@ -115,7 +115,7 @@ pub extern "C" fn pearoar_ranges_remove(alloc: Global, ranges: &mut RangeHandle,
     status
 }
 
-/// Sets the caller's value of the span that begins at a page.
+/// Sets the caller's value of the span that begins at page `start`.
 #[unsafe(no_mangle)]
 pub extern "C" fn pearoar_ranges_set_value(
     alloc: Global,
@@ -138,7 +138,7 @@ pub extern "C" fn pearoar_ranges_set_value(
     status
 }
 
-/// Tells the caller's value of the span that begins at a page, which is 0 until it is set. It takes no memory.
+/// Writes the caller's value of the span that begins at page `start` to `value`; it is 0 until it is set. Takes no memory.
 #[unsafe(no_mangle)]
 pub extern "C" fn pearoar_ranges_value(
     alloc: Global,
@@ -159,7 +159,7 @@ pub extern "C" fn pearoar_ranges_value(
     status
 }
 
-/// Counts what is held and what is free. It takes no memory, and a step.
+/// Counts what is held and what is free. Takes no memory, and constant time.
 #[unsafe(no_mangle)]
 pub extern "C" fn pearoar_ranges_stats(
     alloc: Global,
@@ -180,7 +180,7 @@ pub extern "C" fn pearoar_ranges_stats(
     ranges.put(Parts::of(manager));
 }
 
-/// How many pages are free, and how many are held. It takes no memory.
+/// Writes how many pages are free, and how many are held. Takes no memory.
 #[unsafe(no_mangle)]
 pub extern "C" fn pearoar_ranges_lengths(
     alloc: Global,
@@ -199,7 +199,7 @@ pub extern "C" fn pearoar_ranges_lengths(
     ranges.put(Parts::of(manager));
 }
 
-/// The first span that is held from a page on, or from a later one. It takes no memory, and costs a step a page.
+/// Writes the first span that begins at page `from` or above it to `span`. Takes no memory, and costs a step for each page.
 #[unsafe(no_mangle)]
 pub extern "C" fn pearoar_ranges_next_held(
     alloc: Global,
@@ -220,7 +220,7 @@ pub extern "C" fn pearoar_ranges_next_held(
     status
 }
 
-/// The first free pages at a page or above it (drm_mm_for_each_hole). It takes no memory.
+/// Writes the first free pages at page `from` or above it to `span` (drm_mm_for_each_hole). Takes no memory.
 #[unsafe(no_mangle)]
 pub extern "C" fn pearoar_ranges_next_hole(
     alloc: Global,

@@ -24,7 +24,7 @@ impl Model for RangeHandle {
 }
 
 impl RangeHandle {
-    /// The manager; the handle has none then.
+    /// Takes the manager out of the handle, which then has none.
     pub fn take(&mut self, alloc: Global) -> Parts<Ranges, Global>
         requires { self.old.live ≡ true }
         ensures value { result.value ≡ self.old.value }
@@ -36,7 +36,7 @@ impl RangeHandle {
         }
     }
 
-    /// Points to a manager.
+    /// Puts a manager into the handle.
     pub fn put(&mut self, parts: Parts<Ranges, Global>)
         ensures value { self.new.value ≡ parts.value }
         ensures live { self.new.live ≡ true }

@@ -1,4 +1,4 @@
-//! What C asks of a range manager.
+//! A range manager with the calls that C needs.
 ghost use Rattle.std.specs.Prelude.{◌≡◌, ◌≢◌, ◌↔◌, ℕ, ◌+◌, ◌<◌, ◌≤◌, ◌==◌, true, [], ◌∷◌, Some, None, Contains, IfOk, length, if◌then◌else◌};
 ghost use Rattle.std.specs.List.{find};
 ghost use Rattle.ttm_base.specs.Holes.{has_page};
@@ -39,7 +39,7 @@ impl Model for Ranges {
     ghost invariant = { λ r. r.manager.size ≡ r.size };
 }
 
-/// What an insert asks for.
+/// The request of an insert.
 #[repr(C)]
 #[derive(Clone, Copy)]
 pub struct RangeRequest {
@@ -50,19 +50,19 @@ pub struct RangeRequest {
     pub mode: u32,
 }
 
-/// What is held and what is free, counted in pages, spans and holes.
+/// The counts of what is held and what is free, in pages, spans and holes.
 #[repr(C)]
 #[derive(Clone, Copy)]
 pub struct RangeStats {
     pub free: u32,
     pub held: u32,
     pub spans: u32,
-    /// The pages of the longest hole.
+    /// The number of pages of the longest hole.
     pub longest: u32,
     pub holes: usize,
 }
 
-/// Which hole is taken: the smallest that fits, the lowest, or the highest.
+/// Returns which hole is taken: the smallest that fits, the lowest, or the highest. None means that the mode is unknown.
 fn mode_of(mode: u32) -> Option<Mode>
     ensures { result ≡ mode_of mode }
 {
@@ -84,7 +84,7 @@ fn status_of(fault: InsertFault) -> u32
     }
 }
 
-/// Writes a span that was found.
+/// Writes the span that was found to `span`, and returns the status.
 pub fn tell(found: Option<Span>, span: &mut PageSpan) -> u32
     ensures some { result ≡ DONE → found ≡ Some (span_of span.new) }
     ensures none { (result ≡ NO_MORE) ↔ (found ≡ None) }
@@ -179,7 +179,7 @@ impl Ranges {
         }
     }
 
-    /// Sets the caller's value of the span that begins at a page.
+    /// Sets the caller's value of the span that begins at page `start`.
     pub fn set_value(&mut self, start: u32, value: u64) -> u32
         ensures size { self.new.size ≡ self.old.size }
         ensures held { self.new.held ≡ self.old.held }
@@ -197,7 +197,7 @@ impl Ranges {
         }
     }
 
-    /// Tells the caller's value of the span that begins at a page.
+    /// Writes the caller's value of the span that begins at page `start` to `value`.
     pub fn value(&self, start: u32, value: &mut u64) -> u32
         ensures value { result ≡ DONE → value.new ≡ value_at self.now.values start }
         ensures not_held { (result ≡ NOT_HELD) ↔ (find (starts_at start) self.now.held ≡ None) }
@@ -210,7 +210,7 @@ impl Ranges {
         DONE
     }
 
-    /// What is held and what is free, counted.
+    /// Counts what is held and what is free.
     pub fn stats(&self) -> RangeStats
         ensures held { result.held ≡ pages_of self.now.held }
         ensures free { result.free + result.held ≡ self.now.size }
@@ -228,7 +228,7 @@ impl Ranges {
         }
     }
 
-    /// How many pages are free, and how many are held.
+    /// Returns how many pages are free, and how many are held.
     pub fn lengths(&self) -> (u32, u32)
         ensures used { result.1 ≡ pages_of self.now.held }
         ensures sum { result.0 + result.1 ≡ self.now.size }

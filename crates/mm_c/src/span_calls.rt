@@ -4,7 +4,7 @@ ghost use Rattle.std.specs.List.Sorted.{IsPermutation, IsNonDecreasingBy};
 
 use crate::page_span::PageSpan;
 
-/// Sorts spans by where they begin. It takes no memory.
+/// Sorts `spans` by where they begin. Takes no memory.
 #[unsafe(no_mangle)]
 pub extern "C" fn pearoar_spans_sort(spans: &mut [PageSpan])
     ensures permutation { IsPermutation spans.old spans.new }

@@ -1,15 +1,15 @@
-//! How a call went, as C has it. Each status but `DONE` leaves the manager as it was.
+//! The outcome of a call, as C has it. Each status but `DONE` leaves the manager as it was.
 
 pub const DONE: u32 = 0;
 /// No free pages meet the request, or pages of it are held (ENOSPC).
 pub const NO_ROOM: u32 = 1;
 /// Lack of memory for the manager's own use (ENOMEM).
 pub const NO_MEMORY: u32 = 2;
-/// The request has no meaning: an unknown mode, no pages to keep (EINVAL).
+/// A request without a meaning: an unknown mode, or no pages to keep (EINVAL).
 pub const INVALID: u32 = 3;
-/// Nothing that is held is named so.
+/// Nothing that is held begins there, or is the given block.
 pub const NOT_HELD: u32 = 4;
-/// The blocks are more than the caller's array takes.
+/// More blocks than the caller's array takes.
 pub const TOO_MANY: u32 = 5;
-/// Nothing more is held, or free, from the page on.
+/// No more is held, or free, from the page on.
 pub const NO_MORE: u32 = 6;

@@ -1,4 +1,4 @@
-//! Values of the caller's own.
+//! Values that the caller sets.
 ghost use Rattle.std.specs.Prelude.{◌≡◌, ℕ, ◌==◌, [], OnOk, OnErr, if◌then◌else◌};
 ghost use Rattle.mm_c.specs.UserValues.{value_at};
 
@@ -7,7 +7,7 @@ use std::collections::BTreeMap;
 use std::marker::Model;
 use ttm_base::NoMemory;
 
-/// Keeps a 64-bit value for each page, 0 until it is set. Memory is taken for those pages alone whose value was set.
+/// A 64-bit value for each page, 0 until it is set. Memory is taken only for those pages whose value was set.
 #[derive(Drop)]
 pub struct Values {
     set: BTreeMap<u32, u64>,
@@ -22,7 +22,7 @@ impl Model for Values {
 }
 
 impl Values {
-    /// No value is set.
+    /// Makes the values with none set.
     pub fn new(alloc: Global) -> Values
         ensures { result ≡ [] }
     {
@@ -37,7 +37,7 @@ impl Values {
         self.set.get(&page).copied().unwrap_or(0)
     }
 
-    /// Sets the value of a page. After a refusal nothing is changed.
+    /// Sets the value of page `page`. After a refusal nothing is changed.
     pub fn set(&mut self, page: u32, value: u64) -> Result<(), NoMemory>
         ensures set { OnOk result ((other : ℕ) → value_at self.new other ≡ (if other == page then value else value_at self.old other)) }
         ensures same { OnErr result (self.new ≡ self.old) }
@@ -48,7 +48,7 @@ impl Values {
         Ok(())
     }
 
-    /// Sets the value of a page to 0. It takes no memory.
+    /// Sets the value of page `page` to 0. Takes no memory.
     #[inline]
     pub fn clear(&mut self, page: u32)
         ensures { (other : ℕ) → value_at self.new other ≡ (if other == page then 0 else value_at self.old other) }
@@ -58,7 +58,7 @@ impl Values {
         }
     }
 
-    /// Removes the value of a page. It stays out of line, so that a call where no value is set pays one comparison.
+    /// Removes the value of page `page`. It stays out of line, so that a call where no value is set pays one comparison.
     #[inline(never)]
     fn unset(&mut self, page: u32)
         ensures { (other : ℕ) → value_at self.new other ≡ (if other == page then 0 else value_at self.old other) }

@@ -20,7 +20,7 @@ use room_state::room_turns::{Rooms, Step, make};
 use state_words::{is_caught, target_of};
 use ttm_base::{Actor, BufId, Mem, Need, NoMemory, Usage};
 
-/// A buffer goes back to SYSTEM once no job uses it.
+/// Moves buffer `b` back to SYSTEM, once no job uses it.
 fn unbind(rooms: &mut Rooms, thread: u32, b: BufId) -> Result<Step, NoMemory>
     requires { task_of rooms.old.script (state_behind rooms.old) thread ≡ task.Unbind b }
     ensures step { IfOk result (λ step. step ≡ step_of (entry_of rooms.old (actor.Thread thread))) }
@@ -34,7 +34,8 @@ fn unbind(rooms: &mut Rooms, thread: u32, b: BufId) -> Result<Step, NoMemory>
     make(rooms, Actor::Thread(thread), Kind::Unbind { b })
 }
 
-/// A job moves a buffer to its target. What it leaves in VRAM is free at once if it is a victim, else a ghost's.
+/// Returns the entry of a job that moves buffer `b` to its target in `mem`. What it leaves in VRAM is free at once if it is a victim, else a
+/// ghost's.
 fn kind_of_move(rooms: &Rooms, thread: u32, b: BufId, mem: Mem) -> Kind
     requires { IsSome (state.course_of (state_behind rooms.now) thread) }
     ensures { words.step_of_move (state_behind rooms.now) (state.course (state_behind rooms.now) thread) b mem ≡ Ok result }
@@ -52,8 +53,8 @@ fn kind_of_move(rooms: &Rooms, thread: u32, b: BufId, mem: Mem) -> Kind
     }
 }
 
-/// A buffer goes to what was found for it, in the stage Carry: from SYSTEM to TT, back, or by a job of the move engine. It isn't unbound while
-/// a job uses it.
+/// Moves a buffer to what was found for it, in the stage Carry: from SYSTEM to TT, back, or by a job of the move engine. It isn't unbound while a
+/// job uses it.
 ///
 /// # Errors
 ///
@@ -76,7 +77,7 @@ pub fn carry(rooms: &mut Rooms, thread: u32) -> Result<Step, NoMemory>
     }
 }
 
-/// A live buffer.
+/// Returns buffer `b`, which is live.
 fn lent(rooms: &Rooms, b: BufId) -> &Bo
     requires { IsThere (state_behind rooms.now) b }
     ensures { as_buffer result.now ≡ unfenced (state.buffer (state_behind rooms.now) b) }
@@ -84,7 +85,7 @@ fn lent(rooms: &Rooms, b: BufId) -> &Bo
     rooms.parts().bos.get(b)
 }
 
-/// The target to untake: VRAM, then TT, then SYSTEM.
+/// Returns the memory type of the target to give back: VRAM, then TT, then SYSTEM.
 fn target_to_untake(bo: &Bo) -> Mem
     ensures { result ≡ words.target_to_untake (as_buffer bo.now) }
 {
@@ -97,7 +98,7 @@ fn target_to_untake(bo: &Bo) -> Mem
     }
 }
 
-/// A target that a failed search took is given back, in the stage Fail, where there is one and no Depopulate is due.
+/// Gives back a target that a failed search took, in the stage Fail, where there is one and no Depopulate is due.
 ///
 /// # Errors
 ///

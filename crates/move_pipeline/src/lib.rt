@@ -1,4 +1,5 @@
-//! The buffer of a search gets its pages, and goes to its target. Each call makes the one entry that the thread makes next, or says what it needs first.
+//! Searches and moves: the buffer of a search gets its pages, and goes to its target. Each call makes the one entry that the thread makes next, or
+//! returns what it needs first.
 #![tactic(auto)]
 
 mod carries;

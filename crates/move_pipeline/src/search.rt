@@ -17,7 +17,7 @@ use room_state::room_turns::{
 };
 use ttm_base::{Actor, BufId, FlaggedPlace, Mem, NoMemory, Place, Spans};
 
-/// The pages that a place has, with its memory type.
+/// Returns the pages that `place` has for buffer `b`, with its memory type, or None where it has none.
 fn found_at(rooms: &mut Rooms, b: BufId, place: Place) -> Result<Option<(Mem, Spans)>, NoMemory>
     requires { b.0 < length rooms.old.script.buffers }
     ensures found { IfOk result (λ found. found ≡ words.found_at rooms.old.script (state_behind rooms.old) b place) }
@@ -29,7 +29,7 @@ fn found_at(rooms: &mut Rooms, b: BufId, place: Place) -> Result<Option<(Mem, Sp
     }
 }
 
-/// The pages of a place, where it isn't tried under pressure alone.
+/// Returns the pages that the place `tried` has, or None where it has none or is tried under pressure alone.
 fn tried_at(
     rooms: &mut Rooms,
     b: BufId,
@@ -45,7 +45,7 @@ fn tried_at(
     found_at(rooms, b, tried.place)
 }
 
-/// The pages of the first place with a choice, among those that are tried first.
+/// Returns the pages of the first place with a choice, among those that are tried first, or None where none has one.
 fn first_found(
     rooms: &mut Rooms,
     buffer_search: BufferSearch,
@@ -63,7 +63,8 @@ fn first_found(
     Ok(None)
 }
 
-/// Not yet under pressure, the first place with a choice among those tried first; else the forced place at work.
+/// Returns the pages that a search finds: not yet under pressure, those of the first place with a choice among those tried first; else those of the
+/// forced place at work.
 fn find(rooms: &mut Rooms, buffer_search: BufferSearch) -> Result<Option<(Mem, Spans)>, NoMemory>
     requires { buffer_search.b.0 < length rooms.old.script.buffers }
     ensures found { IfOk result (λ found. found ≡ words.found rooms.old.script (state_behind rooms.old) (seen rooms.old.script buffer_search)) }
@@ -78,7 +79,8 @@ fn find(rooms: &mut Rooms, buffer_search: BufferSearch) -> Result<Option<(Mem, S
     found_at(rooms, buffer_search.b, place)
 }
 
-/// Takes the pages that a thread's search finds, as the buffer's target; false where no place to try now has a choice.
+/// Takes the pages that the search of `thread` finds, as the buffer's target. Returns false where no place to try now has a choice; nothing is
+/// changed then.
 ///
 /// # Errors
 ///

@@ -1,4 +1,4 @@
-//! Operations cut into packets at the page borders of their buffers, however packets name pages.
+//! Cuts operations into packets at the page borders of their buffers, however packets name pages.
 #![tactic(auto)]
 
 mod lists;

@@ -5,10 +5,10 @@ use ttm_base::{ItemList, NoMemory, Packet};
 
 /// A list to which packets are added.
 pub trait PacketList {
-    /// Its packets, in order.
+    /// The packets of the list, in order.
     ghost packets: { Self → List Packet };
 
-    /// Puts a packet at the end.
+    /// Adds `packet` at the end. Where memory is refused the list stays as it was.
     fn add(&mut self, packet: Packet) -> Result<(), NoMemory>
         ensures ok { OnOk result (packets self.new ≡ packets self.old ++ packet ∷ []) }
         ensures err { OnErr result (packets self.new ≡ packets self.old) };

@@ -6,31 +6,31 @@ use crate::lists::PacketList;
 use crate::pieces::{PAGE, op_len, room};
 use ttm_base::{BufId, NoMemory, Op, Packet, PagePlace};
 
-/// How packets name the pages of buffers.
+/// The names by which packets call the pages of buffers.
 pub trait PageNames {
     /// The name of each page of a buffer.
     ghost names: { Self → PageMap };
 
-    /// The name of a page of a buffer.
+    /// Returns the name of the page `page` of the buffer `b`.
     fn name_of(&self, b: BufId, page: u32) -> PagePlace
         ensures { result ≡ names self.now b page };
 }
 
-/// The page of a buffer in which a place of an operation lies.
+/// Returns the page of a buffer that has the byte `at` of an operation, whose bytes begin at offset `off` of the buffer.
 fn page_of(off: u32, at: u32) -> u32
     ensures { result ≡ (off + at) / 4096 }
 {
     ((off as u64 + at as u64) / PAGE) as u32
 }
 
-/// The offset in its page of a place of an operation.
+/// Returns the offset in its page of the byte `at` of an operation, whose bytes begin at offset `off` of the buffer.
 fn offset_of(off: u32, at: u32) -> u32
     ensures { result ≡ (off + at) % 4096 }
 {
     ((off as u64 + at as u64) % PAGE) as u32
 }
 
-/// The packet of the bytes of an operation from a place on, which don't pass a page border.
+/// Returns the packet of the `len` bytes of an operation from byte `at` on, which don't cross a page border.
 fn packet_of<N: PageNames>(names: &N, op: &Op, at: u32, len: u32) -> Packet
     ensures { result ≡ words.packet_of (N.names names.now) op.now (record { at = at; len = len }) }
 {
@@ -75,7 +75,7 @@ fn packet_of<N: PageNames>(names: &N, op: &Op, at: u32, len: u32) -> Packet
     }
 }
 
-/// Puts the packets of an operation after others.
+/// Adds the packets of an operation at the end. Where memory is refused the list has the first of them, up to some packet.
 fn push_packets<N: PageNames, L: PacketList>(
     packets: &mut L,
     names: &N,
@@ -94,8 +94,8 @@ fn push_packets<N: PageNames, L: PacketList>(
     Ok(())
 }
 
-/// Puts the packets of operations after others: each operation, in order and from its lowest byte, is cut at every page border of
-/// its buffers. After lack of memory the list has the first of them, up to some packet.
+/// Adds the packets of operations at the end: each operation, in order and from its lowest byte, is cut at every page border
+/// of its buffers. Where memory is refused the list has the first of them, up to some packet.
 pub fn cut<N: PageNames, L: PacketList>(
     packets: &mut L,
     names: &N,

@@ -4,10 +4,10 @@ ghost use Rattle.ttm_base.specs.Cutting as words;
 use ttm_base::Op;
 use ttm_base::limits::PAGE_BYTES;
 
-/// Bytes of a page.
+/// The size of a page in bytes.
 pub const PAGE: u64 = PAGE_BYTES as u64;
 
-/// The bytes from a place of an operation up to the next page border.
+/// Returns the number of bytes from byte `at` of an operation up to the next page border.
 fn to_border(off: u32, at: u32) -> u32
     ensures value { result ≡ words.to_border (off + at) }
     ensures some { 0 < result }
@@ -15,7 +15,7 @@ fn to_border(off: u32, at: u32) -> u32
     (PAGE - (off as u64 + at as u64) % PAGE) as u32
 }
 
-/// How many bytes may be done at once at a place of an operation.
+/// Returns how many bytes of an operation one packet can take from byte `at` on.
 pub fn room(op: &Op, at: u32) -> u32
     ensures value { result ≡ words.room op.now at }
     ensures some { 0 < result }
@@ -28,7 +28,7 @@ pub fn room(op: &Op, at: u32) -> u32
     }
 }
 
-/// How many bytes an operation takes.
+/// Returns the length of an operation in bytes.
 pub fn op_len(op: &Op) -> u32
     ensures { result ≡ words.op_len op.now }
 {
@@ -38,7 +38,7 @@ pub fn op_len(op: &Op) -> u32
     }
 }
 
-/// Into how many packets an operation is cut.
+/// Returns the number of packets into which an operation is cut.
 pub fn packet_count(op: &Op) -> u32
     ensures { result ≡ length (words.pieces_of op.now) }
 {

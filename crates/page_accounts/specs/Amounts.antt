@@ -1,4 +1,4 @@
--- How much buffers and ghosts hold, by what is counted.
+-- The amounts that buffers and ghosts hold of what is counted.
 use Rattle.std.specs.Prelude.{ℕ, List, Option, Some, None, length, min}
 use Rattle.ttm_base.specs.declared.Mem.{Mem}
 use Rattle.ttm_base.specs.declared.Mem.TheVariants.{System, Tt, Vram}
@@ -12,26 +12,26 @@ use Rattle.journal_model.specs.statements.Account.{count_spans}
 use Rattle.page_accounts.specs.declared.accounts.Accounts.{Accounts}
 use Rattle.page_accounts.specs.Counting.{most}
 
--- what is counted: pages or the target's pages in a memory type, frames, slots
+-- what is counted: pages in a memory type, pages of targets there, frames, or slots
 pub data Holding : Type 0 where
   Pages : Mem → Holding
   Targets : Mem → Holding
   Frames : Holding
   Slots : Holding
 
--- of a buffer
+-- the amount that a buffer holds
 abbrev pub amount : Holding → Buffer → ℕ
 amount (Pages mem) x = count_spans (spans_in mem x)
 amount (Targets mem) x = count_spans (target_spans mem x)
 amount Frames x = length (frames_of x)
 amount Slots x = length (slots_of x)
 
--- of a buffer, if it is live
+-- the amount that a buffer holds if it is live
 abbrev pub amount_where_live : Holding → Option Buffer → ℕ
 amount_where_live what None = 0
 amount_where_live what (Some x) = amount what x
 
--- of a ghost with these pages of VRAM and TT, and so many frames
+-- the amount that a ghost holds, with these pages of VRAM and TT, and this number of frames
 abbrev pub amount_left : Holding → List Span → List Span → ℕ → ℕ
 amount_left (Pages System) vram tt frames = 0
 amount_left (Pages Tt) vram tt frames = count_spans tt
@@ -43,7 +43,7 @@ amount_left Slots vram tt frames = 0
 abbrev pub amount_of_ghost : Holding → Ghost → ℕ
 amount_of_ghost what g = amount_left what g.vram g.tt (length g.frames)
 
--- all that buffers hold, and all that ghosts hold, as it is counted
+-- the accounts of what all buffers and all ghosts hold
 abbrev pub counted : (Holding → ℕ) → (Holding → ℕ) → Accounts
 counted held left =
     record {

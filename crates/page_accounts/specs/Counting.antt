@@ -26,15 +26,15 @@ more a b = min (a + b) most
 abbrev pub nothing_held : Account
 nothing_held = record { free = 0; live = 0; target = 0; ghosts = 0 }
 
--- with what a live buffer and its target hold
+-- an account with what a live buffer and its target hold
 abbrev pub with_held : Account → ℕ → ℕ → Account
 with_held a live target = record a { live = more a.live live; target = more a.target target }
 
--- with what a ghost holds
+-- an account with what a ghost holds
 abbrev pub with_ghosts : Account → ℕ → Account
 with_ghosts a n = record a { ghosts = more a.ghosts n }
 
--- what is not held of the size is free
+-- a closed account: what is not held of the size is free
 abbrev pub closed_account : ℕ → Account → Account
 closed_account size a = record a { free = size - more (more a.live a.target) a.ghosts }
 
@@ -43,7 +43,7 @@ closed_account size a = record a { free = size - more (more a.live a.target) a.g
 abbrev pub nothing : Accounts
 nothing = record { vram = nothing_held; tt = nothing_held; frames = nothing_held; swap = nothing_held }
 
--- with a live buffer
+-- the accounts with a live buffer
 abbrev pub with_buffer : Accounts → Buffer → Accounts
 with_buffer a x =
     record {
@@ -53,12 +53,12 @@ with_buffer a x =
       swap = with_held a.swap (length (slots_of x)) 0;
     }
 
--- with a buffer, if it is live
+-- the accounts with a buffer, if it is live
 abbrev pub with_where_live : Accounts → Option Buffer → Accounts
 with_where_live a None = a
 with_where_live a (Some x) = with_buffer a x
 
--- with a ghost, by its pages of VRAM and TT, and how many frames it has
+-- the accounts with a ghost, by its pages of VRAM and TT, and its number of frames
 abbrev pub with_ghost : Accounts → List Span → List Span → ℕ → Accounts
 with_ghost a vram tt frames =
     record a { vram = with_ghosts a.vram (count_spans vram); tt = with_ghosts a.tt (count_spans tt); frames = with_ghosts a.frames frames }
@@ -72,7 +72,7 @@ closed sizes a =
       swap = closed_account sizes.swap a.swap;
     }
 
--- sizes of 32 bits
+-- the sizes have 32 bits
 pub record AreSmall (sizes : Sizes) : Type 0 where
   pub vram : sizes.vram < 2 ^ 32
   pub tt : sizes.tt < 2 ^ 32

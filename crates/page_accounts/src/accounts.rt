@@ -5,7 +5,7 @@ use crate::counts::{count_frames, count_pages, count_pages_in, count_slots, coun
 use journal_model::{Sizes, Targets};
 use ttm_base::{Loc, Mem, Span};
 
-/// How the pages, frames or slots are held, by number.
+/// The numbers of pages, frames or slots that are free, and that are held by live buffers, by targets and by ghosts.
 #[derive(Clone, Copy)]
 pub struct Account {
     pub free: u64,
@@ -24,7 +24,7 @@ pub struct Accounts {
 }
 
 impl Account {
-    /// Counts nothing.
+    /// Returns an account that counts nothing.
     fn new() -> Account
         ensures { result ≡ nothing_held }
     {
@@ -36,7 +36,7 @@ impl Account {
         }
     }
 
-    /// Counts what a live buffer holds, and its target. Both counts saturate at `u64::MAX`.
+    /// Adds what a live buffer holds, and what its target holds. Both counts saturate at `u64::MAX`.
     fn add_held(&mut self, live: u64, target: u64)
         ensures { self.new ≡ with_held self.old live target }
     {
@@ -44,14 +44,14 @@ impl Account {
         self.target = self.target.saturating_add(target);
     }
 
-    /// Counts what a ghost holds. The count saturates at `u64::MAX`.
+    /// Adds what a ghost holds. The count saturates at `u64::MAX`.
     fn add_ghosts(&mut self, count: u64)
         ensures { self.new ≡ with_ghosts self.old count }
     {
         self.ghosts = self.ghosts.saturating_add(count);
     }
 
-    /// Closes the account: what is not held of `size` pages, frames or slots is free.
+    /// Closes the account: of `size` pages, frames or slots, those that are not held are free.
     fn close(&mut self, size: u32)
         ensures closed { self.new ≡ closed_account size self.old }
         ensures small { size < 2 ^ 32 }
@@ -65,7 +65,7 @@ impl Account {
 }
 
 impl Accounts {
-    /// Counts nothing.
+    /// Returns accounts that count nothing.
     pub fn new() -> Accounts
         ensures { result ≡ nothing }
     {
@@ -77,8 +77,8 @@ impl Accounts {
         }
     }
 
-    /// Counts what a live buffer in `mem` holds: the pages of `spans` there, those of its `targets`, and the frames and slots of
-    /// its page `table`. Each count saturates at `u64::MAX`.
+    /// Adds what a live buffer in `mem` holds: the pages of `spans` there, those of its `targets`, and the frames and slots
+    /// of its page `table`. Each count saturates at `u64::MAX`.
     pub fn add_buffer(&mut self, mem: Mem, spans: &[Span], table: &[Loc], targets: &Targets)
         ensures { self.new ≡ with_buffer self.old (record { mem = mem; spans = spans.now; table = table.now; targets = targets.now; fences = [] }) }
     {
@@ -94,7 +94,7 @@ impl Accounts {
         self.swap.add_held(count_slots(table), 0);
     }
 
-    /// Counts what a ghost holds: pages of VRAM and TT, and frames. Each count saturates at `u64::MAX`.
+    /// Adds what a ghost holds: pages of VRAM and TT, and frames. Each count saturates at `u64::MAX`.
     pub fn add_ghost(&mut self, vram: &[Span], tt: &[Span], frames: &[u32])
         ensures { self.new ≡ with_ghost self.old vram.now tt.now (length frames.now) }
     {
@@ -103,7 +103,7 @@ impl Accounts {
         self.frames.add_ghosts(frames.len() as u64);
     }
 
-    /// Closes the accounts: what is not held of the `sizes` is free.
+    /// Closes the accounts: of the `sizes`, what is not held is free.
     pub fn close(&mut self, sizes: &Sizes)
         ensures closed { self.new ≡ closed sizes.now self.old }
 

@@ -20,7 +20,7 @@ pub(crate) fn count_pages(spans: &[Span]) -> u64
     count
 }
 
-/// Counts the pages of `spans`, which are in `mem`, that are in `wanted`. Saturates at `u64::MAX`.
+/// Counts the pages of `spans`, which are in `mem`, if `mem` is `wanted`, else none. Saturates at `u64::MAX`.
 pub(crate) fn count_pages_in(wanted: Mem, mem: Mem, spans: &[Span]) -> u64
     ensures { result ≡ min (count_spans (if same_mem mem wanted then spans.now else [])) most }
 {

@@ -1,4 +1,4 @@
-//! How the pages, frames and slots of a state are held, by number.
+//! Accounts of the pages, frames and slots of a state: how many are held by whom.
 #![tactic(auto)]
 
 pub mod accounts;

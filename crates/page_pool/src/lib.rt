@@ -8,12 +8,12 @@ use std::alloc::Global;
 use std::marker::Model;
 use ttm_base::NoMemory;
 
-/// For each frame whether it is held, seen as a list.
+/// A pool that knows of each frame whether it is held, seen as a list.
 pub struct PagePool {
     frames: FreeMap,
 }
 
-/// By hand, so that no crate above proves how each part goes.
+/// Names each part, so that no crate above proves how they are dropped.
 impl Drop for PagePool {
     fn drop(self) {
         let Self { frames: _ } = self;
@@ -29,7 +29,7 @@ impl Model for PagePool {
 }
 
 impl PagePool {
-    /// So many frames, each of them free.
+    /// Returns a pool of `frames` frames, each of them free.
     pub fn new(alloc: Global, frames: u32) -> Result<PagePool, NoMemory>
         ensures { IfOk result (λ pool. pool ≡ replicate frames false) }
     {
@@ -37,7 +37,7 @@ impl PagePool {
         Ok(PagePool { frames })
     }
 
-    /// Takes the lowest free frame, which is then held.
+    /// Takes the lowest free frame, which is then held. None means that no frame is free, and changes nothing.
     pub fn take(&mut self) -> Option<u32>
         ensures lowest { result ≡ position not self.old }
         ensures taken { IfSome result (λ frame. self.new ≡ slice_set self.old frame true) }
@@ -46,7 +46,7 @@ impl PagePool {
         self.frames.take()
     }
 
-    /// Gives a frame back that is held.
+    /// Gives back the frame `frame`, which is held.
     pub fn give(&mut self, frame: u32)
         requires { slice_get self.old frame ≡ Some true }
         ensures { self.new ≡ slice_set self.old frame false }
@@ -54,14 +54,14 @@ impl PagePool {
         self.frames.give(frame);
     }
 
-    /// How many frames are free.
+    /// Returns how many frames are free.
     pub fn free(&self) -> u32
         ensures { result ≡ count_by not self.now }
     {
         self.frames.free()
     }
 
-    /// The lowest free frame, which `take` would give.
+    /// Returns the lowest free frame, which `take` would return, or None where no frame is free.
     pub fn first(&self) -> Option<u32>
         ensures { result ≡ position not self.now }
     {

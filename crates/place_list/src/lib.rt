@@ -1,6 +1,6 @@
-//! The tests of places: which pages of a manager a place reaches, whether a resource meets or fits them, and which places of a
-//! list are tried first or under pressure. And a cursor over the pages of a resource.
-//! Placements are those of TTM (ttm_placement since kernel 6.9), the cursor is that of drivers (xe_res_cursor). No call takes memory.
+//! Tests of places: which pages of a manager a place reaches, whether a resource meets or fits them, and which places of a
+//! list are tried first or under pressure. Also a cursor over the pages of a resource. Placements are those of TTM
+//! (ttm_placement since kernel 6.9), the cursor is that of drivers (xe_res_cursor). No call takes memory.
 #![tactic(auto)]
 
 ghost use Rattle.std.specs.Prelude.{◌≡◌, ◌^◌, ◌<◌, length, not, slice_get, Some};
@@ -14,8 +14,8 @@ pub mod rules_places;
 
 pub use page_cursor::PageCursor;
 
-/// The pages of a manager of this size that a place reaches, from the first up to the last without the last. Both are one
-/// where the place reaches none.
+/// Returns the pages that a place reaches in a manager of `size` pages, as the first page and the page after the last. Both
+/// are equal where the place reaches no page.
 pub fn reach(place: &Place, size: u32) -> (u32, u32)
     ensures start { result.0 ≡ (words.reach place.now size).start }
     ensures end { result.1 ≡ (words.reach place.now size).end }
@@ -24,7 +24,7 @@ pub fn reach(place: &Place, size: u32) -> (u32, u32)
     (within.start, within.end)
 }
 
-/// Some page of the spans is in the reach.
+/// Returns whether some page of the spans is in `reach`.
 pub fn intersects(spans: &Spans, reach: (u32, u32)) -> bool
     ensures { result ≡ words.intersects spans.now (record { start = reach.0; end = reach.1 }) }
 {
@@ -35,28 +35,29 @@ pub fn intersects(spans: &Spans, reach: (u32, u32)) -> bool
     crate::rules_places::intersects(spans.items(), within)
 }
 
-/// Some place of the list accepts the resource, whose manager has this size (ttm_resource_compatible).
+/// Returns whether some place of the placement accepts the resource, whose manager has `size` pages
+/// (ttm_resource_compatible).
 pub fn compatible(mem: Mem, spans: &Spans, placement: &Placement, size: u32) -> bool
     ensures { result ≡ rules.compatible mem spans.now placement.now size }
 {
     crate::rules_places::compatible(mem, spans.items(), placement.list.items(), size)
 }
 
-/// The place is tried first.
+/// Returns whether the place is tried first.
 fn is_first(place: &FlaggedPlace) -> bool
     ensures { result ≡ not place.now.fallback }
 {
     !place.fallback
 }
 
-/// The place is tried under pressure.
+/// Returns whether the place is tried under pressure.
 fn is_forced(place: &FlaggedPlace) -> bool
     ensures { result ≡ not place.now.desired }
 {
     !place.desired
 }
 
-/// How many places are tried first.
+/// Returns the number of places that are tried first.
 pub fn first_count(placement: &Placement) -> u32
     requires { length placement.now.list < 2 ^ 32 }
     ensures { result ≡ length (rules.first_places placement.now.list) }
@@ -69,7 +70,7 @@ pub fn first_count(placement: &Placement) -> u32
         .count() as u32
 }
 
-/// Lends one of the places that are tried first, by its number in their order.
+/// Lends the place with number `k` among those that are tried first, counted from 0 in their order.
 pub fn first_at(placement: &Placement, k: u32) -> &Place
     requires { k < length (rules.first_places placement.now.list) }
     ensures { slice_get (rules.first_places placement.now.list) k ≡ Some result.now }
@@ -86,7 +87,7 @@ pub fn first_at(placement: &Placement, k: u32) -> &Place
     &p.place
 }
 
-/// How many places are tried under pressure.
+/// Returns the number of places that are tried under pressure.
 pub fn forced_count(placement: &Placement) -> u32
     requires { length placement.now.list < 2 ^ 32 }
     ensures { result ≡ length (rules.forced_places placement.now.list) }
@@ -99,7 +100,7 @@ pub fn forced_count(placement: &Placement) -> u32
         .count() as u32
 }
 
-/// Lends one of the places that are tried under pressure, by its number in their order.
+/// Lends the place with number `k` among those that are tried under pressure, counted from 0 in their order.
 pub fn forced_at(placement: &Placement, k: u32) -> &Place
     requires { k < length (rules.forced_places placement.now.list) }
     ensures { slice_get (rules.forced_places placement.now.list) k ≡ Some result.now }

@@ -5,13 +5,14 @@ ghost use Rattle.place_list.specs.SpanPages.{pages_of};
 use std::marker::Model;
 use ttm_base::Span;
 
-/// A walk over the pages of spans, in order, seen as the list of the pages that are left (xe_res_cursor). All pages together
-/// cost as many steps as there are pages and spans, where to look each page up costs as many as there are spans.
+/// A cursor over the pages of spans, in order, seen as the list of the pages that are left (xe_res_cursor). To go through
+/// all pages takes as many steps as there are pages and spans together, while to look up each page alone takes as many as
+/// there are spans.
 #[derive(Drop)]
 pub struct PageCursor<'a> {
-    /// The pages of the span at hand that are left.
+    /// The pages that are left of the current span.
     here: Span,
-    /// The spans after it.
+    /// The spans after the current one.
     behind: &'a [Span],
 }
 
@@ -25,7 +26,7 @@ impl<'a> Model for PageCursor<'a> {
 }
 
 impl<'a> PageCursor<'a> {
-    /// A walk from the first page of the spans.
+    /// Returns a cursor at the first page of the spans.
     pub fn new(spans: &'a [Span]) -> PageCursor<'a>
         ensures { result ≡ pages_of spans.now }
     {

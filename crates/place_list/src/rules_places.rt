@@ -1,5 +1,5 @@
-//! Spans of pages, and what a place says of them, as code: which pages of a manager a place reaches, and which resources it accepts.
-//! Each function is named after its definition and gives what the definition says.
+//! Spans of pages, and what a place says of them, as code: which pages of a manager a place reaches, and which resources it
+//! accepts. Each function is named after its definition and returns what the definition says.
 ghost use Rattle.std.specs.Prelude.{◌≡◌, IfOk, nat_lt};
 ghost use Rattle.std.specs.List.{list_all};
 ghost use Rattle.ttm_base.specs.Reach as words;
@@ -8,7 +8,7 @@ ghost use Rattle.ttm_base.specs.Placement as rules;
 use std::alloc::Global;
 use ttm_base::{FlaggedPlace, ItemList, Mem, NoMemory, Place, Span};
 
-/// Memory types by number: SYSTEM 0, TT 1, VRAM 2.
+/// Returns the number of a memory type: 0 for SYSTEM, 1 for TT, 2 for VRAM.
 pub fn mem_number(mem: Mem) -> u32
     ensures { result ≡ words.mem_number mem }
 {
@@ -19,14 +19,14 @@ pub fn mem_number(mem: Mem) -> u32
     }
 }
 
-/// The memory types are one.
+/// Returns whether both memory types are the same.
 pub fn same_mem(a: Mem, b: Mem) -> bool
     ensures { result ≡ words.same_mem a b }
 {
     mem_number(a) == mem_number(b)
 }
 
-/// The pages of a manager of this size that a place reaches.
+/// Returns the span of pages that a place reaches in a manager of `size` pages.
 pub fn reach(place: Place, size: u32) -> Span
     ensures { result ≡ words.reach place size }
 {
@@ -41,14 +41,14 @@ pub fn reach(place: Place, size: u32) -> Span
     }
 }
 
-/// How many pages a span has.
+/// Returns the length of a span in pages.
 pub fn length_of(span: Span) -> u32
     ensures { result ≡ words.length_of span }
 {
     span.end.saturating_sub(span.start)
 }
 
-/// The pages that both spans have.
+/// Returns the span of the pages that are in both spans.
 pub fn common(a: Span, b: Span) -> Span
     ensures { result ≡ words.common a b }
 {
@@ -58,7 +58,7 @@ pub fn common(a: Span, b: Span) -> Span
     }
 }
 
-/// The two spans have a page in common.
+/// Returns whether the two spans have a page in common.
 fn overlaps(a: Span, b: Span) -> bool
     ensures { result ≡ nat_lt (words.common a b).start (words.common a b).end }
 {
@@ -66,21 +66,21 @@ fn overlaps(a: Span, b: Span) -> bool
     both.start < both.end
 }
 
-/// Some page of the spans is in the reach.
+/// Returns whether some page of the spans is in the reach `within`.
 pub fn intersects(held: &[Span], within: Span) -> bool
     ensures { result ≡ words.intersects held.now within }
 {
     held.iter().any(|s| overlaps(*s, within))
 }
 
-/// All pages of a span are in the reach.
+/// Returns whether all pages of a span are in the reach `within`.
 pub fn is_inside(within: Span, span: Span) -> bool
     ensures { result ≡ words.is_inside within span }
 {
     within.start <= span.start && span.end <= within.end
 }
 
-/// Each span begins where the one before it ends.
+/// Returns whether each span begins where the one before it ends.
 pub fn is_contiguous(held: &[Span]) -> bool
     ensures { result ≡ words.is_contiguous held.now }
 {
@@ -89,14 +89,15 @@ pub fn is_contiguous(held: &[Span]) -> bool
         .all(|(a, b)| a.end == b.start)
 }
 
-/// All spans are in the reach.
+/// Returns whether all spans are in the reach `within`.
 fn are_inside(within: Span, held: &[Span]) -> bool
     ensures { result ≡ list_all (words.is_inside within) held.now }
 {
     held.iter().all(|s| is_inside(within, *s))
 }
 
-/// A place accepts a resource of its memory type with all pages in its reach, and without gaps where it says so.
+/// Returns whether a place accepts a resource: one of its memory type with all pages in its reach, and contiguous if the
+/// place asks for it.
 pub fn accepts(mem: Mem, held: &[Span], size: u32, place: Place) -> bool
     ensures { result ≡ rules.accepts mem held.now size place }
 {
@@ -105,14 +106,14 @@ pub fn accepts(mem: Mem, held: &[Span], size: u32, place: Place) -> bool
         && (!place.contig || is_contiguous(held))
 }
 
-/// Some place of the list accepts the resource.
+/// Returns whether some place of the list accepts the resource.
 pub fn compatible(mem: Mem, held: &[Span], places: &[FlaggedPlace], size: u32) -> bool
     ensures { result ≡ rules.compatible mem held.now (record { list = places.now }) size }
 {
     places.iter().any(|p| accepts(mem, held, size, p.place))
 }
 
-/// The places that are tried first, in order.
+/// Returns the places that are tried first, in order.
 pub fn first_places(alloc: Global, list: &[FlaggedPlace]) -> Result<ItemList<Place>, NoMemory>
     ensures { IfOk result (λ places. places ≡ rules.first_places list.now) }
 {
@@ -125,7 +126,7 @@ pub fn first_places(alloc: Global, list: &[FlaggedPlace]) -> Result<ItemList<Pla
     Ok(places)
 }
 
-/// The places that are tried under pressure, in order.
+/// Returns the places that are tried under pressure, in order.
 pub fn forced_places(alloc: Global, list: &[FlaggedPlace]) -> Result<ItemList<Place>, NoMemory>
     ensures { IfOk result (λ places. places ≡ rules.forced_places list.now) }
 {

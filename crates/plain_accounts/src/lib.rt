@@ -14,11 +14,11 @@ use rules_holds::{count_free_frames, count_free_slots, held_spans, is_free_besid
 use std::alloc::Global;
 use ttm_base::{Mem, NoMemory, Span};
 
-/// Counts how the pages, frames and slots of a `state` are held.
+/// Counts how the pages, frames and slots of `state` are held.
 ///
 /// # Errors
 ///
-/// Answers `NoMemory` also for a count of 2^64 - 1 or more: no memory holds a state with that many pages.
+/// Returns `NoMemory` also for a count of 2^64 - 1 or more: no memory holds a state with that many pages.
 pub fn accounts_of(alloc: Global, script: &Script, state: &State) -> Result<Accounts, NoMemory>
     ensures { IfOk result (AreAccountsOf script.now state.now.core) }
 {
@@ -52,7 +52,7 @@ fn count_held(core: &Core) -> Accounts
     accounts
 }
 
-/// Puts the number of those that are free into an account of what is held, whose counts mustn't have saturated.
+/// Returns the account `held` with the number of free ones, or `NoMemory` if a count of it has saturated.
 fn with_free(held: Account, free: u64) -> Result<Account, NoMemory>
     ensures free { IfOk result (λ a. a ≡ record held { free = free }) }
     ensures live { IfOk result (λ a. held.live < most) }
@@ -65,7 +65,7 @@ fn with_free(held: Account, free: u64) -> Result<Account, NoMemory>
     Ok(Account { free, ..held })
 }
 
-/// Counts the pages below the `size` that no span has.
+/// Counts the pages below `size` that no span of `held` has.
 #[tactic(auto, using(rules_holds::proofs::CountLaws::count_more))]
 fn count_free_pages(held: &[Span], size: u32) -> u64
     ensures { result ≡ length (filter (is_free held.now) (count_from 1 size 0)) }

@@ -11,7 +11,7 @@ use Rattle.journal_model.specs.rules.Stores.{is_there}
 use Rattle.journal_model.specs.scripts.ScriptRules.{is_script}
 use Rattle.journal_model.specs.rules.Legal.{IsLegal, state_of, stores_of}
 
--- there are no bytes beyond the pages that there are
+-- all bytes are 0 but those of the pages that there are
 abbrev pub HasNoMore : Sizes → PageBytes → Type 0
 HasNoMore sizes bytes = (page : Page) (o : ℕ) → (is_there sizes page && nat_lt o 4096) ≡ false → bytes page o ≡ 0
 

@@ -13,11 +13,11 @@ pub record Kept : Type 0 where
   pub script : Script
   pub journal : List Entry
 
--- one entry more
+-- the device with one entry more
 abbrev pub with_entry : Kept → Entry → Kept
 with_entry k e = record k { journal = k.journal ++ e ∷ [] }
 
--- the actor's legal entry, or its need
+-- the entry that the actor makes next, or what it needs first
 abbrev pub entry_of : Kept → Actor → Result Entry Need
 entry_of k who = next_entry k.script (world_of k.script k.journal) who
 

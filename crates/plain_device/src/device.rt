@@ -53,7 +53,7 @@ impl Model for Device {
 }
 
 impl Device {
-    /// A device that hasn't begun.
+    /// Makes a device that hasn't begun.
     ///
     /// # Errors
     ///
@@ -73,35 +73,35 @@ impl Device {
         })
     }
 
-    /// The script that is run.
+    /// Returns the script that is run.
     pub fn script(&self) -> &Script
         ensures { result.now ≡ self.now.script }
     {
         &self.script
     }
 
-    /// The entries so far.
+    /// Returns the entries so far.
     pub fn journal(&self) -> &[Entry]
         ensures { result.now ≡ self.now.journal }
     {
         self.journal.items()
     }
 
-    /// The state that the entries lead to.
+    /// Returns the state that the entries lead to.
     pub fn state(&self) -> &State
         ensures { result.now ≡ state_of self.now.script self.now.journal }
     {
         &self.state
     }
 
-    /// The bytes that the entries lead to.
+    /// Returns the bytes that the entries lead to.
     pub fn stores(&self) -> &PlainStores
         ensures { bytes_of result.now ≡ stores_of self.now.script self.now.journal }
     {
         &self.stores
     }
 
-    /// Every command is answered, every job is done and there is no ghost. Until then some actor has an entry.
+    /// Returns whether every command is answered, every job is done and there is no ghost. Until then some actor has an entry.
     pub fn over(&self) -> bool
         ensures complete { result ≡ is_complete self.now.script self.now.journal }
         ensures goes_on { (result ≡ false) ↔ SomeGoesOn self.now.script (state_of self.now.script self.now.journal) }
@@ -109,7 +109,7 @@ impl Device {
         is_over(&self.script, &self.state)
     }
 
-    /// The entry that an actor makes next, or what it needs first.
+    /// Returns the entry that `who` makes next, or what it needs first.
     fn next_entry(&self, who: Actor) -> Result<Result<Entry, Need>, NoMemory>
         requires { length self.now.journal + 1 < 2 ^ 64 }
         ensures { IfOk result (λ step. step ≡ entry_of self.now who) }
@@ -125,7 +125,7 @@ impl Device {
         }
     }
 
-    /// Makes an entry.
+    /// Makes `entry`. Without memory it leaves the device as it was.
     fn make(&mut self, entry: Entry) -> Result<(), NoMemory>
         requires next { entry_of self.old entry.who ≡ Ok entry }
         requires short { length self.old.journal + 1 < 2 ^ 64 }
@@ -147,7 +147,7 @@ impl Device {
         made
     }
 
-    /// A turn of an actor.
+    /// Takes a turn of `who`.
     ///
     /// # Errors
     ///
@@ -172,7 +172,7 @@ impl Device {
         }
     }
 
-    /// The actor whose turn it is where no schedule says so.
+    /// Returns the actor whose turn it is where no schedule says so.
     ///
     /// # Errors
     ///

@@ -14,7 +14,7 @@ use rules_stores::{PlainStores, put_write};
 use std::alloc::Global;
 use ttm_base::NoMemory;
 
-/// A result. It moves no buffer, so the bytes of a write are put once it stands.
+/// Makes the state and the bytes those after `entry`, a result. It moves no buffer, so the bytes of a write are put once it stands.
 fn enact_result(
     alloc: Global,
     script: &Script,
@@ -37,7 +37,8 @@ fn enact_result(
     Ok(())
 }
 
-/// An entry that isn't a result. Where it changes bytes it takes no memory, so they are changed first, by the state before it.
+/// Makes the state and the bytes those after `entry`, which isn't a result. Where it changes bytes it takes no memory, so they are changed
+/// first, by the state before it.
 fn enact_step(
     alloc: Global,
     script: &Script,
@@ -55,7 +56,7 @@ fn enact_step(
     apply(state, alloc, script, entry)
 }
 
-/// Makes the state and the bytes those after an entry.
+/// Makes the state and the bytes those after `entry`.
 ///
 /// # Errors
 ///

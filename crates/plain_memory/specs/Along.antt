@@ -9,7 +9,7 @@ use Rattle.journal_model.specs.rules.Commands.{commands_of}
 use Rattle.journal_model.specs.rules.PlainMemory.{Memory, Plain, with_zeros, after_ops, memory_after_result}
 use Rattle.plain_memory.specs.Kept.{memory_in, sizes_in, sizes_of}
 
--- the memory by kind, of a thread at this command
+-- the memory after an entry of the kind, of a thread at `command`
 abbrev pub memory_after : Option Command → Kind → Memory → Memory
 memory_after command (kind.New b) memory = with_zeros b memory
 memory_after command (kind.Free b g) memory = with_zeros b memory
@@ -17,7 +17,7 @@ memory_after command (kind.Arm engine n) memory = after_ops memory (ops_of comma
 memory_after command (kind.Result r) memory = memory_after_result command memory
 memory_after command _ memory = memory
 
--- a command is answered
+-- an entry of the kind answers a command
 abbrev pub is_answer : Kind → Bool
 is_answer (kind.Result r) = true
 is_answer (kind.Refused d) = true
@@ -27,7 +27,7 @@ is_answer _ = false
 abbrev pub command_by : Script → List ℕ → ℕ → Option Command
 command_by script counts thread = slice_get (commands_of script thread) (slice_index counts thread)
 
--- these numbers after an entry of a thread
+-- the numbers of answered commands after an entry of the thread
 abbrev pub counts_after : ℕ → Kind → List ℕ → List ℕ
 counts_after thread k counts = if is_answer k then slice_set counts thread (slice_index counts thread + 1) else counts
 

@@ -4,19 +4,19 @@ use Rattle.std.specs.List.{slice_index_or}
 use Rattle.journal_model.specs.declared.script.Script.{Script}
 use Rattle.journal_model.specs.rules.PlainMemory.{Memory}
 
--- the memory in such lists; zeros follow each of them, and in buffers that aren't there
+-- the memory that the lists keep; zeros follow each of them, and in buffers that aren't there
 abbrev pub memory_in : List (List ℕ) → Memory
 memory_in rooms b i = slice_index (slice_index_or rooms b []) i
 
--- how many bytes each buffer has
+-- the number of bytes of each buffer
 abbrev pub sizes_in : List (List ℕ) → List ℕ
 sizes_in rooms = map length rooms
 
--- how many bytes each buffer of a script has
+-- the number of bytes of each buffer of a script
 abbrev pub sizes_of : Script → List ℕ
 sizes_of script = map (λ d. 4096 * d.pages) script.buffers
 
--- the sizes stay, and the memory becomes this one
+-- the sizes stay, and the memory becomes `memory`
 pub record BecomesMemory (old new : List (List ℕ)) (memory : Memory) : Type 0 where
   pub same_sizes : sizes_in new ≡ sizes_in old
   pub memory_is : memory_in new ≡ memory

@@ -12,14 +12,14 @@ use Rattle.journal_model.specs.rules.Apply.{thread_of}
 use Rattle.journal_model.specs.rules.PlainMemory.{Memory, Plain, first_plain, plain_after, command_of}
 use Rattle.journal_model.specs.rules.Transparent.{bytes_owed}
 
--- a result shows these bytes, or none where none are owed
+-- the result shows the bytes that are owed, or none where none are owed
 abbrev pub shows : Shown → Option (List ℕ) → Bool
 shows (shown.Read bytes) (Some owed) = bytes_eq bytes owed
 shows (shown.Read bytes) None = false
 shows _ (Some owed) = false
 shows _ None = true
 
--- the result of a thread at this command shows other bytes than it has to
+-- the result of a thread at `command` shows other bytes than it has to
 abbrev pub is_mismatch : Option Command → Memory → Kind → Bool
 is_mismatch command memory (kind.Result r) = not (shows r (bytes_owed command memory))
 is_mismatch command memory _ = false
@@ -28,11 +28,11 @@ is_mismatch command memory _ = false
 abbrev pub mismatch_at : Script → Plain → Entry → ℕ
 mismatch_at script p e = if is_mismatch (command_of script p (thread_of e.who)) p.memory e.kind then 1 else 0
 
--- how many there are from an entry on
+-- the number of mismatches from an entry on
 abbrev pub mismatches_from : Script → Plain → List Entry → ℕ
 mismatches_from script p [] = 0
 mismatches_from script p (e ∷ es) = mismatch_at script p e + mismatches_from script (plain_after script p e) es
 
--- how many there are in a journal
+-- the number of mismatches in a journal
 abbrev pub mismatches_of : Script → List Entry → ℕ
 mismatches_of script journal = mismatches_from script first_plain journal

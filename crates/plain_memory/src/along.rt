@@ -16,7 +16,7 @@ use rules_state::{commands_of, ops_of};
 use std::alloc::Global;
 use ttm_base::NoMemory;
 
-/// The command that a thread is at; `answered` has how many commands of each thread are answered.
+/// Returns the command that `thread` is at, or None where none is left; `answered` has how many commands of each thread are answered.
 fn command_by<'a>(script: &'a Script, answered: &Numbers, thread: u32) -> Option<&'a Command>
     ensures { option_copied result ≡ words.command_by script.now answered.now thread }
 {
@@ -27,7 +27,7 @@ fn command_by<'a>(script: &'a Script, answered: &Numbers, thread: u32) -> Option
     commands_of(script, thread).get(at as usize)
 }
 
-/// Whether a result shows the bytes that its command has to show: a read those of the memory, and any other command none.
+/// Returns whether a result shows the bytes that its command has to show: a read those of the memory, and any other command none.
 fn shows(memory: &PlainMemory, command: Option<&Command>, shown: &Shown) -> bool
     requires { CommandFits (sizes_in memory.now) (option_copied command) }
     ensures { result ≡ counted.shows shown.now (bytes_owed (option_copied command.entry) (memory_in memory.now)) }
@@ -44,7 +44,7 @@ fn shows(memory: &PlainMemory, command: Option<&Command>, shown: &Shown) -> bool
     }
 }
 
-/// Whether a result shows other bytes than it has to.
+/// Returns whether an entry is a result that shows other bytes than it has to.
 fn is_mismatch(memory: &PlainMemory, command: Option<&Command>, kind: &Kind) -> bool
     requires { CommandFits (sizes_in memory.now) (option_copied command) }
     ensures { result ≡ counted.is_mismatch (option_copied command.entry) (memory_in memory.now) kind.now }
@@ -55,7 +55,7 @@ fn is_mismatch(memory: &PlainMemory, command: Option<&Command>, kind: &Kind) -> 
     }
 }
 
-/// Puts the bytes of the command that is answered, if it is a write.
+/// Writes the bytes of the command that is answered, if it is a write.
 fn answer(memory: &mut PlainMemory, command: Option<&Command>)
     requires { CommandFits (sizes_in memory.old) (option_copied command) }
     ensures { BecomesMemory memory.old memory.new (memory_after_result (option_copied command.entry) (memory_in memory.old)) }
@@ -65,7 +65,7 @@ fn answer(memory: &mut PlainMemory, command: Option<&Command>)
     }
 }
 
-/// Brings the memory after an entry of a thread at this command.
+/// Brings the memory to its state after an entry of a thread at `command`.
 fn put_entry(
     alloc: Global,
     memory: &mut PlainMemory,
@@ -89,7 +89,7 @@ fn put_entry(
     }
 }
 
-/// Counts an answer of a thread.
+/// Counts the answer of `thread`, if the entry is one.
 fn count_answer(answered: &mut Numbers, thread: u32, kind: &Kind)
     requires { slice_index answered.old thread + 1 < 2 ^ 64 }
     ensures { answered.new ≡ words.counts_after thread kind.now answered.old }
@@ -101,7 +101,7 @@ fn count_answer(answered: &mut Numbers, thread: u32, kind: &Kind)
     }
 }
 
-/// Goes past an entry, and says whether it is a mismatch.
+/// Goes past `entry`, and returns whether it is a mismatch.
 fn pass(
     alloc: Global,
     script: &Script,
@@ -123,7 +123,7 @@ fn pass(
     Ok(found)
 }
 
-/// The number of mismatches with an entry more, which may be one.
+/// Returns the number of mismatches with one more entry, which is a mismatch if `found` says so.
 fn count_with(count: u64, found: bool) -> u64
     requires { count + 1 < 2 ^ 64 }
     ensures value { result ≡ count + (if found then 1 else 0) }
@@ -132,7 +132,7 @@ fn count_with(count: u64, found: bool) -> u64
     if found { count + 1 } else { count }
 }
 
-/// No answers of `threads` threads, and none of thread 0, which doesn't exist.
+/// Returns a count of zero answers for each of `threads` threads, and for thread 0, which doesn't exist.
 #[tactic(auto, using(crate::proofs::AlongLaws::replicate_push))]
 fn no_answers(alloc: Global, threads: usize) -> Result<Numbers, NoMemory>
     ensures { IfOk result (λ answered. answered ≡ replicate (threads + 1) 0) }
@@ -145,8 +145,8 @@ fn no_answers(alloc: Global, threads: usize) -> Result<Numbers, NoMemory>
     Ok(answered)
 }
 
-/// How many results of a journal show other bytes than the plain memory has, in time linear in the journal and the bytes that
-/// its entries touch. The buffers of the script take their whole size in memory.
+/// Returns how many results of `journal` show other bytes than the plain memory has. Takes time linear in the journal and the bytes that its entries
+/// touch. The buffers of the script take their whole size in memory.
 pub fn mismatches(alloc: Global, script: &Script, journal: &[Entry]) -> Result<u64, NoMemory>
     requires { IsTrue (is_script script.now) }
     ensures counted { IfOk result (λ n. n ≡ counted.mismatches_of script.now journal.now) }

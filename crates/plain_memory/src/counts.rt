@@ -3,21 +3,21 @@ ghost use Rattle.plain_memory.specs.Along as words;
 
 use journal_model::{Entry, Kind, Script};
 
-/// Whether a command is answered, by a result or by a refusal.
+/// Returns whether an entry of `kind` answers a command, by a result or by a refusal.
 pub fn is_answer(kind: &Kind) -> bool
     ensures { result ≡ words.is_answer kind.now }
 {
     matches!(kind, Kind::Result { .. } | Kind::Refused { .. })
 }
 
-/// How many commands a journal answers, by a result or by a refusal.
+/// Returns how many commands `journal` answers, by a result or by a refusal.
 pub fn answers(journal: &[Entry]) -> u64
     ensures { result ≡ count_by (λ e. words.is_answer e.kind) journal.now }
 {
     journal.iter().filter(|e| is_answer(&e.kind)).count() as u64
 }
 
-/// How many commands all threads have, as far as 64 bits hold it.
+/// Returns how many commands all threads have. Saturates at `u64::MAX`.
 pub fn command_count(script: &Script) -> u64
     ensures { result ≡ min (sum_by length script.now.threads) 18446744073709551615 }
 {

@@ -9,7 +9,7 @@ use std::alloc::Global;
 use std::marker::Model;
 use ttm_base::{BufId, NoMemory, Op};
 
-/// The bytes of each buffer of a script, each buffer in a place of its own, from zeros on. A write touches its range alone.
+/// The bytes of each buffer of a script, each buffer in a place of its own, and zeros at first. A write touches only its range.
 #[derive(Drop)]
 pub struct PlainMemory {
     rooms: Vec<Room>,
@@ -23,7 +23,7 @@ impl Model for PlainMemory {
     ghost view = { λ s. s.rooms.items };
 }
 
-/// The exclusive or of bytes with as many others.
+/// Returns the exclusive or of the bytes `one` with as many others.
 fn xored(alloc: Global, one: &[u8], other: &[u8]) -> Result<Bytes, NoMemory>
     requires { length one.now ≡ length other.now }
     ensures len { IfOk result (λ bytes. length bytes ≡ length one.now) }
@@ -37,7 +37,7 @@ fn xored(alloc: Global, one: &[u8], other: &[u8]) -> Result<Bytes, NoMemory>
 }
 
 impl PlainMemory {
-    /// Zeros in each buffer of the script.
+    /// Makes a memory with zeros in each buffer of `script`.
     pub fn new(alloc: Global, script: &Script) -> Result<PlainMemory, NoMemory>
         ensures sizes { IfOk result (λ memory. sizes_in memory ≡ sizes_of script.now) }
         ensures zeros { IfOk result (λ memory. memory_in memory ≡ (λ b i. 0)) }
@@ -49,7 +49,7 @@ impl PlainMemory {
         Ok(PlainMemory { rooms })
     }
 
-    /// Bytes of a buffer from an offset on.
+    /// Returns `len` bytes of buffer `b` from `off` on.
     pub fn range(&self, b: BufId, off: u32, len: u32) -> &[u8]
         requires { HasRange (sizes_in self.now) b off len }
         ensures { result.now ≡ words.memory_range (memory_in self.now) b off len }
@@ -57,7 +57,7 @@ impl PlainMemory {
         self.rooms[b.0 as usize].range(off as usize, len as usize)
     }
 
-    /// Makes all bytes of a buffer zero, where there is the buffer.
+    /// Makes all bytes of buffer `b` zero, where there is the buffer.
     pub fn clear(&mut self, b: BufId)
         ensures { BecomesMemory self.old self.new (words.with_zeros b (memory_in self.old)) }
     {
@@ -67,7 +67,7 @@ impl PlainMemory {
         }
     }
 
-    /// Writes bytes to a buffer from an offset on.
+    /// Writes the bytes `from` to buffer `b` from `off` on.
     pub fn write(&mut self, b: BufId, off: u32, from: &[u8])
         requires { HasRange (sizes_in self.old) b off (length from.now) }
         ensures { BecomesMemory self.old self.new (words.with_range b off (length from.now) (slice_index from.now) (memory_in self.old)) }
@@ -75,7 +75,7 @@ impl PlainMemory {
         self.rooms[b.0 as usize].write(off as usize, from);
     }
 
-    /// Writes `byte` to `len` bytes of a buffer from `off` on.
+    /// Writes `byte` to `len` bytes of buffer `b` from `off` on.
     pub fn fill(&mut self, b: BufId, off: u32, len: u32, byte: u8)
         requires { HasRange (sizes_in self.old) b off len }
         ensures { BecomesMemory self.old self.new (words.with_range b off len (λ i. byte) (memory_in self.old)) }
@@ -84,7 +84,7 @@ impl PlainMemory {
     }
 }
 
-/// Where some bytes begin.
+/// The place where a range of bytes begins.
 #[derive(Clone, Copy)]
 struct Spot {
     b: BufId,
@@ -94,7 +94,7 @@ struct Spot {
 impl PlainMemory {
     ghost use Rattle.ttm_base.specs.declared.Op.TheVariants as ops_by_name;
 
-    /// Copies bytes, through a list of as many.
+    /// Copies `len` bytes, through a list of that length.
     fn copy(&mut self, alloc: Global, to: Spot, from: Spot, len: u32) -> Result<(), NoMemory>
         requires to { HasRange (sizes_in self.old) to.b to.off len }
         requires from { HasRange (sizes_in self.old) from.b from.off len }
@@ -106,7 +106,7 @@ impl PlainMemory {
         Ok(())
     }
 
-    /// Puts the exclusive or with other bytes in the place of some, through a list of as many.
+    /// Replaces `len` bytes at `to` by their exclusive or with those at `from`, through a list of that length.
     fn xor(&mut self, alloc: Global, to: Spot, from: Spot, len: u32) -> Result<(), NoMemory>
         requires to { HasRange (sizes_in self.old) to.b to.off len }
         requires from { HasRange (sizes_in self.old) from.b from.off len }
@@ -120,7 +120,7 @@ impl PlainMemory {
         Ok(())
     }
 
-    /// Applies an operation at once and whole. A copy or an exclusive or takes memory for as many bytes for a while.
+    /// Applies an operation at once and whole. A copy or an exclusive or takes memory for its bytes for a while.
     pub fn apply(&mut self, alloc: Global, op: Op) -> Result<(), NoMemory>
         requires { OpFits (sizes_in self.old) op }
         ensures ok { OnOk result (BecomesMemory self.old self.new (words.after_op (memory_in self.old) op)) }
@@ -164,7 +164,7 @@ impl PlainMemory {
         }
     }
 
-    /// Applies operations in their order. Where memory is wanting, those before the one that wants it are applied.
+    /// Applies operations in their order. Where memory is refused, those before the one that needs it are applied.
     pub fn apply_all(&mut self, alloc: Global, ops: &[Op]) -> Result<(), NoMemory>
         requires { All (OpFits (sizes_in self.old)) ops.now }
         ensures { OnOk result (BecomesMemory self.old self.new (words.after_ops (memory_in self.old) ops.now)) }

@@ -5,7 +5,7 @@ use std::marker::Model;
 use ttm_base::NoMemory;
 use ttm_base::limits::PAGE_BYTES;
 
-/// Bytes of a page.
+/// The size of a page in bytes.
 const PAGE: usize = PAGE_BYTES as usize;
 
 /// The bytes of one buffer. Nothing but `new` takes memory.
@@ -22,7 +22,7 @@ impl Model for Room {
     ghost view = { λ s. s.bytes.items };
 }
 
-/// Writes bytes at an offset.
+/// Writes the bytes `from` at the offset `off`.
 fn write_at(room: &mut [u8], off: usize, from: &[u8])
     requires { off + length from.now ≤ length room.old }
     ensures { room.new ≡ take off room.old ++ (from.now ++ drop (off + length from.now) room.old) }
@@ -39,7 +39,7 @@ fn fill_at(room: &mut [u8], off: usize, len: usize, byte: u8)
 }
 
 impl Room {
-    /// So many pages of zeros.
+    /// Makes `pages` pages of zeros.
     pub fn new(alloc: Global, pages: u32) -> Result<Room, NoMemory>
         ensures { IfOk result (λ room. room ≡ replicate (4096 * pages) 0) }
     {
@@ -47,7 +47,7 @@ impl Room {
         Ok(Room { bytes })
     }
 
-    /// Bytes from an offset on.
+    /// Returns `len` bytes from `off` on.
     pub fn range(&self, off: usize, len: usize) -> &[u8]
         requires { off + len ≤ length self.now }
         ensures { result.now ≡ slice_range self.now off (off + len) }
@@ -55,7 +55,7 @@ impl Room {
         &self.bytes[off..off + len]
     }
 
-    /// Writes bytes from an offset on.
+    /// Writes the bytes `from` from `off` on.
     pub fn write(&mut self, off: usize, from: &[u8])
         requires { off + length from.now ≤ length self.old }
         ensures { self.new ≡ take off self.old ++ (from.now ++ drop (off + length from.now) self.old) }

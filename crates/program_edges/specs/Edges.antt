@@ -13,11 +13,11 @@ pub record Edge : Type 0 where
   pub faults_before : ℕ
   pub faults_after : ℕ
 
--- no call of it failed
+-- no call of the edge failed
 abbrev pub IsFaultless : Edge → Type 0
 IsFaultless e = e.faults_after ≡ e.faults_before
 
--- one call of it failed
+-- one call of the edge failed
 abbrev pub HasOneFault : Edge → Type 0
 HasOneFault e = e.faults_after ≡ one_more e.faults_before
 
@@ -34,14 +34,14 @@ pub record WasReadWhole (e : Edge) (bytes : Text) : Type 0 where
   pub none_left : e.after ≡ option_map (λ left. []) e.before
   pub faultless : IsFaultless e
 
--- so many bytes were read, which were the first of those left
+-- count bytes were read, which were the first of those left
 pub record WasReadTo (e : Edge) (count : ℕ) : Type 0 where
   pub front : Text
   pub len : length front ≡ count
   pub taken : e.before ≡ prepend_known front e.after
   pub faultless : IsFaultless e
 
--- a front of at most so many bytes was read, and then a read failed
+-- a prefix of at most this many bytes was read, and then a read failed
 pub record WasCutOff (e : Edge) (most : ℕ) : Type 0 where
   pub front : Text
   pub len : length front ≤ most
@@ -55,12 +55,12 @@ pub record IsWritten (e : Edge) (text : Text) : Type 0 where
   pub whole : e.after ≡ append_known e.before text
   pub faultless : IsFaultless e
 
--- a write failed, and a front of the text was written before it, not all
+-- a write failed, and a prefix of the text was written before it, not all
 pub record IsBroken (e : Edge) (text : Text) : Type 0 where
   pub front : AppendsFront e.before e.after text
   pub fault : HasOneFault e
 
--- memory ran out, and a front of the text was written before that, not all
+-- memory ran out, and a prefix of the text was written before that, not all
 pub record IsCut (e : Edge) (text : Text) : Type 0 where
   pub front : AppendsFront e.before e.after text
   pub faultless : IsFaultless e

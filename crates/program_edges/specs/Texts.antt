@@ -2,6 +2,6 @@
 use Rattle.std.specs.Prelude.{ℕ, [], ◌∷◌, ◌++◌, codes, decimal}
 use Rattle.journal_model.specs.scripts.Words.{Text}
 
--- names the first broken line, and on it the least broken rule
+-- the text that names the first broken line, and on it the least broken rule
 abbrev pub bad_script_text : ℕ → ℕ → Text
 bad_script_text n rule = codes "bad script: line " ++ decimal n ++ codes ", rule " ++ decimal rule ++ 10 ∷ []

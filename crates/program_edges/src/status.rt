@@ -25,7 +25,7 @@ pub enum Status {
 }
 
 impl Status {
-    /// The exit status of the process.
+    /// Returns the exit status of the process.
     pub fn code(self) -> u8
         ensures { result ≡ code_of self }
     {
@@ -42,7 +42,7 @@ impl Status {
     }
 }
 
-/// The status after a text was written.
+/// Returns the status after a text was written: `status`, or that of the fault.
 pub fn status_after(status: Status, written: Result<(), WriteFault>) -> Status
     ensures { result ≡ status_after status written }
 {

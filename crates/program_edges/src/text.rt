@@ -14,7 +14,7 @@ fn bad_script_line(alloc: Global, line: u32, rule: u32) -> Result<String, NoMemo
     Ok(format!(in alloc; "bad script: line {line}, rule {rule}\n")?)
 }
 
-/// Writes a text as one piece.
+/// Writes `text` as one piece.
 pub fn write_text<K: Sink>(text: &[u8], sink: &mut K) -> Result<(), WriteFault>
     ensures text { Writes result (K.written sink.old) (K.written sink.new) text.now }
     ensures faults { K.faults sink.new ≡ faults_after_writing result (K.faults sink.old) }

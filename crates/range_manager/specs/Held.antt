@@ -10,25 +10,26 @@ pub record Managed : Type 0 where
   pub size : ℕ
   pub held : List Span
 
--- the spans of a list that has for each page where the span that begins there ends; a page where none begins has no end above it
+-- the spans of a list that has for each page the end of the span that begins there; a page where no span begins has no end
+-- above it
 abbrev pub held_spans : ℕ → List ℕ → List Span
 held_spans start [] = []
 held_spans start (e ∷ es) = if nat_lt start e then record { start = start; end = e } ∷ held_spans (start + 1) es else held_spans (start + 1) es
 
--- the spans with one more in its place, if it has a page
+-- the spans with one more at its position, if it has a page
 abbrev pub with_span : Span → List Span → List Span
 with_span s held = if nat_lt s.start s.end then with_hole s held else held
 
--- how many pages they have
+-- the number of pages of spans
 abbrev pub pages_of : List Span → ℕ
 pages_of [] = 0
 pages_of (s ∷ ss) = length_of s + pages_of ss
 
--- there is such a page, and no span that is held has it
+-- whether there is such a page, and no held span has it
 abbrev pub is_open : Managed → ℕ → Bool
 is_open m page = nat_lt page m.size && is_free_beside m.held page
 
--- a page of the span is held, or lies past the size
+-- a page of the span is held, or is past the size
 pub record HasTakenPage (m : Managed) (s : Span) : Type 0 where
   pub page : ℕ
   pub of : has_page page s ≡ true

@@ -1,4 +1,4 @@
-//! The range that a request takes.
+//! The choice of the range that a request takes.
 ghost use Rattle.std.specs.Prelude.{◌≡◌, ◌+◌, ◌^◌, ◌<◌, ◌≤◌, Some, IfSome, option_map};
 ghost use Rattle.std.specs.List.{find};
 ghost use Rattle.ttm_base.specs.RangeChoice.{range_choice, start_to_test};
@@ -10,14 +10,14 @@ ghost use Rattle.range_manager.specs.Kept.{IsSpaced};
 use hole_tree::{Holes, aligned_down, aligned_up};
 use ttm_base::{Mode, Span};
 
-/// Pages, and the hole that has them.
+/// The pages that a request takes, and the hole that has them.
 #[derive(Clone, Copy)]
 pub struct Choice {
     pub hole: Span,
     pub pages: Span,
 }
 
-/// Chooses the pages that are taken, and the hole that has them.
+/// Chooses the pages that a request takes, and the hole that has them. None means that no hole fits.
 #[inline(always)]
 pub(crate) fn chosen(
     holes: &Holes,
@@ -43,7 +43,7 @@ pub(crate) fn chosen(
     })
 }
 
-/// Chooses the hole.
+/// Chooses the hole that a request takes.
 #[inline(always)]
 fn chosen_hole(holes: &Holes, pages: u32, align: u32, range: Span, mode: Mode) -> Option<Span>
     requires { 1 ≤ align }

@@ -1,4 +1,4 @@
-//! Holes that are split and joined. What they are is told by their pages.
+//! Holes that are split and joined. They are specified by their pages.
 ghost use Rattle.std.specs.Prelude.{◌≡◌, ℕ, ◌+◌, ◌^◌, ◌<◌, ◌≤◌, ◌&&◌, ◌||◌, true, false, Some, IfSome, IfNone, IfOk, OnOk, not, nat_lt};
 ghost use Rattle.std.specs.List.{find, list_any};
 ghost use Rattle.ttm_base.specs.Holes.{has_page};
@@ -9,7 +9,7 @@ use hole_tree::{Holes, Neighbours};
 use std::alloc::Global;
 use ttm_base::{NoMemory, Span};
 
-/// All pages are one hole, if there are any.
+/// Returns all pages as one hole, or no hole where there are no pages.
 pub(crate) fn whole(alloc: Global, pages: u32) -> Result<Holes, NoMemory>
     ensures spaced { IfOk result (λ holes. IsSpaced 1 holes.holes) }
     ensures pages { IfOk result (λ holes. (page : ℕ) → list_any (has_page page) holes.holes ≡ nat_lt page pages) }
@@ -26,7 +26,7 @@ pub(crate) fn whole(alloc: Global, pages: u32) -> Result<Holes, NoMemory>
     Ok(holes)
 }
 
-/// Makes room for the holes that come when a span is held beside others, and when all are let go.
+/// Makes room for the holes that come up when one more span is held beside `held` others, and when all of them are released.
 pub(crate) fn make_room(holes: &mut Holes, held: u32) -> Result<(), NoMemory>
     ensures holes { holes.new.holes ≡ holes.old.holes }
     ensures room { OnOk result (held + 2 ≤ holes.new.spare) }
@@ -39,7 +39,7 @@ pub(crate) fn make_room(holes: &mut Holes, held: u32) -> Result<(), NoMemory>
     holes.ready(room)
 }
 
-/// The hole that has a page.
+/// Returns the hole that has the page `page`, if there is one.
 pub(crate) fn around(holes: &Holes, page: u32) -> Option<Span>
     requires spaced { IsSpaced 1 holes.now.holes }
     ensures hole { IfSome result (λ hole. find (starts_at hole.start) holes.now.holes ≡ Some hole) }
@@ -49,7 +49,7 @@ pub(crate) fn around(holes: &Holes, page: u32) -> Option<Span>
     holes.around(page)
 }
 
-/// Takes pages of a hole: what is left of it on both sides are holes.
+/// Takes pages of a hole. What is left of it on both sides are holes.
 #[inline(always)]
 pub(crate) fn take(holes: &mut Holes, hole: Span, taken: Span)
     requires spaced { IsSpaced 1 holes.old.holes }
@@ -82,7 +82,7 @@ pub(crate) fn take(holes: &mut Holes, hole: Span, taken: Span)
     holes.remove(hole.start);
 }
 
-/// Gives pages back: they are a hole, together with the holes that they touch.
+/// Gives pages back, which are joined to the holes that they touch.
 pub(crate) fn give(holes: &mut Holes, pages: Span)
     requires spaced { IsSpaced 1 holes.old.holes }
     requires some { pages.start < pages.end }
@@ -114,7 +114,7 @@ pub(crate) fn give(holes: &mut Holes, pages: Span)
     }
 }
 
-/// Puts pages to the hole that ends where they begin, where they touch no other.
+/// Adds pages to the hole that ends where they begin. They touch no other hole.
 fn grow(holes: &mut Holes, hole: Span, pages: Span)
     requires spaced { IsSpaced 1 holes.old.holes }
     requires hole { find (starts_at hole.start) holes.old.holes ≡ Some hole }
@@ -135,7 +135,7 @@ fn grow(holes: &mut Holes, hole: Span, pages: Span)
     );
 }
 
-/// Adds pages, if there are any, that no hole has or touches.
+/// Adds pages, if there are any, as a hole of their own. No hole has or touches one of them.
 fn put(holes: &mut Holes, pages: Span)
     requires spaced { IsSpaced 1 holes.old.holes }
     requires clear { IsClear 1 pages holes.old.holes }

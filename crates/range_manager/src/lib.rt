@@ -1,4 +1,4 @@
-//! The pages of a memory type as ranges (drm_mm).
+//! A manager of the pages of a memory type by ranges (drm_mm).
 #![tactic(auto)]
 
 mod choice;
@@ -7,10 +7,10 @@ mod manager;
 
 pub use manager::RangeManager;
 
-/// Why no range was taken.
+/// The reason why no range was taken.
 #[derive(Clone, Copy, Debug, PartialEq, Eq)]
 pub enum InsertFault {
-    /// No hole has the pages.
+    /// No hole has the pages, or room for them.
     NoHole,
     NoMemory,
 }

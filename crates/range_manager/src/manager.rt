@@ -16,12 +16,13 @@ use std::alloc::Global;
 use std::marker::Model;
 use ttm_base::{Mode, NoMemory, Span};
 
-/// Manages the pages of a memory type by ranges, seen as the number of pages and the spans that are held. The other pages are free.
+/// A manager of the pages of a memory type by ranges, seen as the number of pages and the spans that are held. The other
+/// pages are free.
 pub struct RangeManager {
     holes: Holes,
-    /// The end of the span that begins at a page, or 0 where none does.
+    /// For each page the end of the span that begins there, or 0 where none begins.
     ends: SparseTable,
-    /// The pages that are held.
+    /// The number of pages that are held.
     used: u32,
     /// The number of spans that are held.
     count: u32,
@@ -82,7 +83,7 @@ fn hold(
 }
 
 impl RangeManager {
-    /// Pages of which none is held.
+    /// Returns a manager of `pages` pages, all of them free.
     pub fn new(alloc: Global, pages: u32) -> Result<RangeManager, NoMemory>
         ensures size { IfOk result (λ manager. manager.size ≡ pages) }
         ensures held { IfOk result (λ manager. manager.held ≡ []) }
@@ -97,7 +98,7 @@ impl RangeManager {
         })
     }
 
-    /// The span that `insert` takes, of which nothing is taken here. It takes no memory.
+    /// Returns the span that `insert` would take, and takes nothing. It takes no memory. None means that no hole fits.
     pub fn choice(&self, pages: u32, align: u32, first: u32, last: u32, mode: Mode) -> Option<Span>
         requires { 1 ≤ align }
         ensures { result ≡ range_choice mode (holes (is_free_beside self.now.held) self.now.size) pages align (record { start = first; end = last }) }
@@ -110,8 +111,8 @@ impl RangeManager {
         Some(choice.pages)
     }
 
-    /// Takes `pages` pages at a multiple of `align`, from `first` up to `last`, in the hole of the range choice (drm_mm_insert_node).
-    /// After a refusal nothing is changed.
+    /// Takes `pages` pages that begin at a multiple of `align`, from page `first` up to page `last`, in the hole of the
+    /// range choice (drm_mm_insert_node). After an error nothing is changed.
     pub fn insert(
         &mut self,
         pages: u32,
@@ -146,7 +147,8 @@ impl RangeManager {
         Ok(choice.pages)
     }
 
-    /// Takes the pages of a span (drm_mm_reserve_node); one without pages changes nothing. After a refusal nothing is changed.
+    /// Takes the pages of a span (drm_mm_reserve_node); a span without pages changes nothing. After an error nothing is
+    /// changed.
     pub fn reserve(&mut self, span: Span) -> Result<(), InsertFault>
         ensures size { self.new.size ≡ self.old.size }
         ensures free { OnOk result ((page : ℕ) → has_page page span ≡ true → is_open self.old page ≡ true) }
@@ -176,7 +178,7 @@ impl RangeManager {
         Ok(())
     }
 
-    /// Lets the span go that begins at a page. It takes no memory.
+    /// Releases the span that begins at the page `start`. It takes no memory.
     pub fn remove(&mut self, start: u32)
         requires { IsSome (find (starts_at start) self.old.held) }
         ensures size { self.new.size ≡ self.old.size }
@@ -193,7 +195,7 @@ impl RangeManager {
         self.count -= 1;
     }
 
-    /// The span that is held from a page on.
+    /// Returns the held span that begins at the page `start`, or None where none begins there.
     pub fn held_from(&self, start: u32) -> Option<Span>
         ensures { result ≡ find (starts_at start) self.now.held }
     {
@@ -205,7 +207,7 @@ impl RangeManager {
         }
     }
 
-    /// How many pages are free, and how many are used.
+    /// Returns how many pages are free, and how many are used.
     pub fn lengths(&self) -> (u32, u32)
         ensures used { result.1 ≡ pages_of self.now.held }
         ensures sum { result.0 + result.1 ≡ self.now.size }
@@ -213,21 +215,21 @@ impl RangeManager {
         (self.ends.len() as u32 - self.used, self.used)
     }
 
-    /// How many spans are held.
+    /// Returns the number of spans that are held.
     pub fn span_count(&self) -> u32
         ensures { result ≡ length self.now.held }
     {
         self.count
     }
 
-    /// How many holes there are.
+    /// Returns the number of holes.
     pub fn hole_count(&self) -> usize
         ensures { result ≡ length (holes (is_free_beside self.now.held) self.now.size) }
     {
         self.holes.hole_count()
     }
 
-    /// The pages of the longest hole, or 0 where there is none.
+    /// Returns the length of the longest hole in pages, or 0 where there is none.
     pub fn longest_hole(&self) -> u32
         ensures { result ≡ longest (holes (is_free_beside self.now.held) self.now.size) }
     {

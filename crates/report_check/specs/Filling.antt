@@ -12,7 +12,7 @@ use Rattle.journal_model.specs.rules.Places.{is_frame}
 use Rattle.journal_model.specs.rules.Holds.{has_number, held_frames}
 use Rattle.journal_model.specs.rules.Apply.{apply}
 
--- there is such a page, without a frame
+-- there is such a page, and it has no frame
 abbrev pub is_empty_place : Option Loc → Bool
 is_empty_place None = false
 is_empty_place (Some l) = not (is_frame l)
@@ -21,7 +21,7 @@ is_empty_place (Some l) = not (is_frame l)
 abbrev pub lacks_frame : Buffer → ℕ → Bool
 lacks_frame x page = is_empty_place (slice_get x.table page)
 
--- the same of a buffer that may not be live
+-- a buffer, if it is live, has the page, without a frame
 abbrev pub is_lacking : Option Buffer → ℕ → Bool
 is_lacking None page = false
 is_lacking (Some x) page = lacks_frame x page
@@ -30,7 +30,7 @@ is_lacking (Some x) page = lacks_frame x page
 abbrev pub is_unfilled : Core → BufId → ℕ → Bool
 is_unfilled c b page = is_lacking (live_in c.buffers b) page
 
--- the numbers are the old ones and one more
+-- the new numbers are the old ones and one more
 abbrev pub HasOneMore : List ℕ → ℕ → List ℕ → Type 0
 HasOneMore old number new = (n : ℕ) → has_number new n ≡ (has_number old n || nat_eq n number)
 

@@ -13,7 +13,7 @@ use Rattle.report_check.specs.declared.judge.Verdict.TheVariants as verdict
 
 -- ---- of an entry
 
--- a kind is the other, or only its step is, or not even that
+-- the kinds are the same, or only their steps are, or not even these
 abbrev pub Differs : Kind → Kind → Option Rule → Type 0
 Differs made told None = made ≡ told
 Differs made told (Some rule.Shown) = (unshown made ≡ unshown told) × (made ≡ told → ⊥)

@@ -12,7 +12,7 @@ use rules_state::{is_frame, live_in};
 use std::alloc::Global;
 use ttm_base::{BufId, NoMemory};
 
-/// The buffer has the page, without a frame.
+/// Returns whether `buffer` has the page `page`, without a frame.
 fn lacks_frame(buffer: &Buffer, page: u32) -> bool
     ensures { result ≡ words.lacks_frame buffer.now page }
 {
@@ -22,7 +22,7 @@ fn lacks_frame(buffer: &Buffer, page: u32) -> bool
     }
 }
 
-/// The buffer is live and has the page, without a frame.
+/// Returns whether buffer `b` is live and has the page `page`, without a frame.
 fn is_unfilled(core: &Core, b: BufId, page: u32) -> bool
     ensures { result ≡ words.is_unfilled core.now b page }
 {
@@ -32,7 +32,7 @@ fn is_unfilled(core: &Core, b: BufId, page: u32) -> bool
     }
 }
 
-/// The marks by which an entry is judged. Where it gives a page a frame, they are made unless they were kept.
+/// Returns the marks by which `entry` is judged. Where it gives a page a frame, they are made unless they were kept.
 pub(super) fn marks_for(
     alloc: Global,
     script: &Script,
@@ -51,7 +51,7 @@ pub(super) fn marks_for(
     }
 }
 
-/// The frame that an entry gives to a page without one.
+/// Returns the frame that `entry` gives to a page without one, or `None` if it gives none.
 #[tactic(auto, using(crate::proofs::FillLaws::populate_gives, crate::proofs::FillLaws::swap_in_gives))]
 fn frame_given(state: &State, entry: &Entry) -> Option<u32>
     ensures { IfSome result (GivesFrame state.now entry.now) }
@@ -63,7 +63,7 @@ fn frame_given(state: &State, entry: &Entry) -> Option<u32>
     }
 }
 
-/// The marks once an entry is made, by the state before it. They are kept only where a page without a frame gets one.
+/// Returns the marks once `entry` is made in `state`. They are kept only where a page without a frame gets one.
 #[tactic(auto, using(crate::proofs::FillLaws::marks_given))]
 pub(super) fn marks_after(
     state: &State,

@@ -20,19 +20,19 @@ use rules_stores::PlainStores;
 use std::alloc::Global;
 use ttm_base::NoMemory;
 
-/// Says what a journal is.
+/// What a journal is.
 #[derive(Clone, Copy)]
 pub enum Verdict {
-    /// It is legal and complete.
+    /// The journal is legal and complete.
     Valid,
-    /// It is legal, and not complete.
+    /// The journal is legal, and not complete.
     Incomplete,
-    /// It isn't legal: `entry` is the first that isn't legal next, counted from 1, and `rule` the one that it breaks: `Rule::Step`, or
-    /// `Rule::Shown` where it is legal next but for what it shows.
+    /// The journal isn't legal: `entry` is the first that isn't legal next, counted from 1, and `rule` the one that it breaks:
+    /// `Rule::Step`, or `Rule::Shown` where it is legal next but for what it shows.
     Bad { entry: u64, rule: Rule },
 }
 
-/// Answers the rule that the entry `told` breaks where its actor makes `made`, if it breaks one.
+/// Returns the rule that the entry `told` breaks where its actor makes `made`, or `None` if it breaks none.
 fn rule_between(made: &Kind, told: &Kind) -> Option<Rule>
     ensures { Differs made.now told.now result }
 {
@@ -45,7 +45,7 @@ fn rule_between(made: &Kind, told: &Kind) -> Option<Rule>
     }
 }
 
-/// Answers the rule that `entry` breaks in a state, if it isn't legal next.
+/// Returns the rule that `entry` breaks in `state`, or `None` if it is legal next.
 fn broken_rule(
     alloc: Global,
     script: &Script,

@@ -92,7 +92,7 @@ fn is_result(kind: &Kind, shown: &Shown) -> bool
     }
 }
 
-/// What they do, and what they show, is one.
+/// Returns whether what the entries do, and what they show, is the same.
 pub fn same_kind(kind: &Kind, other: &Kind) -> bool
     ensures { IsTrue result ↔ (kind.now ≡ other.now) }
 {
@@ -134,7 +134,7 @@ pub fn same_kind(kind: &Kind, other: &Kind) -> bool
     }
 }
 
-/// What they do is one, whatever they show.
+/// Returns whether what the entries do is the same, whatever they show.
 pub fn same_step(kind: &Kind, other: &Kind) -> bool
     ensures { IsTrue result ↔ (unshown kind.now ≡ unshown other.now) }
 {

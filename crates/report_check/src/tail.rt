@@ -25,7 +25,7 @@ use std::alloc::Global;
 use text_line::Line;
 use ttm_base::NoMemory;
 
-/// Keeps a text as a sink. It refuses only where memory runs out.
+/// A sink that keeps a text. It refuses only where memory runs out.
 #[derive(Drop)]
 struct TextSink {
     bytes: Vec<u8>,
@@ -53,7 +53,7 @@ impl Sink for TextSink {
     }
 }
 
-/// Writes what follows the entries of a report.
+/// Writes what follows the entries of a report to `sink`.
 fn write_tail<K: Sink>(
     alloc: Global,
     script: &Script,
@@ -72,7 +72,7 @@ fn write_tail<K: Sink>(
     Ok(())
 }
 
-/// Counts what the state after a legal journal holds, by making its entries.
+/// Counts what the state after a legal `journal` holds, by making its entries.
 fn accounts_after(alloc: Global, script: &Script, journal: &[Entry]) -> Result<Accounts, NoMemory>
     requires fits { IsTrue (is_script script.now) }
     requires legal { IsLegal script.now journal.now }
@@ -85,7 +85,7 @@ fn accounts_after(alloc: Global, script: &Script, journal: &[Entry]) -> Result<A
     accounts_of(alloc, script, &state)
 }
 
-/// Makes what follows the entries in the report of a journal.
+/// Makes the text that follows the entries in the report of `journal`.
 fn tail_of(
     alloc: Global,
     script: &Script,
@@ -105,7 +105,7 @@ fn tail_of(
     }
 }
 
-/// Answers whether `tail` is what follows the entries in the report of a legal `journal` of `script`. The entries are made again, without
+/// Returns whether `tail` is what follows the entries in the report of a legal `journal` of `script`. The entries are made again, without
 /// the rules that a check of them asks; the report's end is made in memory of its length.
 ///
 /// # Errors

@@ -7,13 +7,13 @@ use Rattle.journal_model.specs.declared.script.MarkKind.{MarkKind}
 use Rattle.journal_model.specs.declared.script.MarkKind.TheVariants as mark
 use Rattle.journal_model.specs.marks.Marks.{is_request}
 
--- at least a page, all of the space, and all of pages that a buffer may have
+-- a request has at least a page, lies in the space, and maps pages that a buffer may have
 abbrev pub is_in_space : MarkKind → Bool
 is_in_space (mark.Vmap va n b off) = nat_le 1 n && nat_le (va + n) 1048576 && nat_le (off + n) 4096
 is_in_space (mark.Vunmap va n) = nat_le 1 n && nat_le (va + n) 1048576
 is_in_space _ = true
 
--- each request of a script is
+-- each request of a script is one that an address space can answer
 abbrev pub are_in_spaces : Script → Bool
 are_in_spaces script = list_all (λ m. is_in_space m.kind) script.marks
 

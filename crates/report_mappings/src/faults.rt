@@ -18,7 +18,7 @@ use std::alloc::Global;
 use text_line::{Line, put_numbered};
 use ttm_base::{ItemList, NoMemory};
 
-/// A page has no entry, which the command of a number met last.
+/// Returns whether a page has no entry. The command numbered `last` met the page last.
 fn is_fault(from: Option<u64>, last: u64) -> bool
     ensures { result ≡ words.is_fault from last }
 {
@@ -28,7 +28,7 @@ fn is_fault(from: Option<u64>, last: u64) -> bool
     }
 }
 
-/// The pages of an access that have no entry, in rising order.
+/// Returns the pages of `access` that have no entry, in rising order.
 fn faults_in(
     alloc: Global,
     seen: &Seen,
@@ -46,7 +46,7 @@ fn faults_in(
     Ok(pages)
 }
 
-/// Puts each number after a comma.
+/// Puts each of `numbers` into `line`, a comma before it.
 fn put_more_numbers(line: &mut Line, numbers: &[u64]) -> Result<(), NoMemory>
     ensures { OnOk result (line.new ≡ line.old ++ behind_each 44 (map decimal numbers.now)) }
 {
@@ -69,7 +69,7 @@ fn put_numbers(line: &mut Line, numbers: &[u64]) -> Result<(), NoMemory>
     }
 }
 
-/// Puts the faults of a thread's command, after which `n` others stand.
+/// Puts the faults of a thread's command, before which `n` others stand, into `line`.
 fn put_line(line: &mut Line, thread: u64, n: u64, faults: &[u64]) -> Result<(), NoMemory>
     requires { n < 18446744073709551615 }
     ensures { OnOk result (line.new ≡ line.old ++ faults_line thread n faults.now) }
@@ -82,7 +82,8 @@ fn put_line(line: &mut Line, thread: u64, n: u64, faults: &[u64]) -> Result<(), 
     line.end_line()
 }
 
-/// Puts the faults of an entry of the thread, which has answered `n` commands, and does what it does to the entries of its mappings.
+/// Puts the faults of an entry of the thread, which has answered `n` commands, into `line`, and makes the changes that the entry makes to
+/// the entries of its mappings.
 fn put_entry(
     line: &mut Line,
     alloc: Global,
@@ -110,7 +111,7 @@ fn put_entry(
     }
 }
 
-/// Whether an entry answers a command of the thread.
+/// Returns whether `entry` answers a command of the thread numbered `thread`.
 fn answers(thread: u64, entry: &Entry) -> bool
     ensures { result ≡ (complete.is_by_thread thread entry.now.who && is_answer entry.now.kind) }
 {
@@ -118,7 +119,7 @@ fn answers(thread: u64, entry: &Entry) -> bool
         && matches!(entry.kind, Kind::Result { .. } | Kind::Refused { .. })
 }
 
-/// Puts the faults of a thread.
+/// Puts the faults of the thread numbered `thread` into `line`.
 fn put_thread_faults(
     line: &mut Line,
     alloc: Global,
@@ -139,7 +140,7 @@ fn put_thread_faults(
     Ok(())
 }
 
-/// Puts the faults of all threads.
+/// Puts the faults of all threads into `line`.
 fn put_all_faults(
     line: &mut Line,
     alloc: Global,
@@ -160,15 +161,15 @@ fn is_map(kind: &MarkKind) -> bool
     matches!(kind, MarkKind::Map { .. })
 }
 
-/// The script has a line that maps a buffer.
+/// Returns whether the script has a line that maps a buffer.
 pub fn has_map(script: &Script) -> bool
     ensures { result ≡ list_any (λ m. marks.is_map m.kind) script.now.marks }
 {
     script.marks.items().iter().any(|mark| is_map(&mark.kind))
 }
 
-/// Puts the report's part on mappings by the CPU, which is empty where no line maps a buffer. Of a journal that isn't legal it puts some text. For
-/// each thread the journal is gone through; each of its peeks and pokes costs a search of the marks.
+/// Puts the report's part on mappings by the CPU into `line`, which is empty where no line maps a buffer. Of a journal that isn't legal it
+/// puts some text. It passes over the journal once for each thread; each of the thread's peeks and pokes costs a search of the marks.
 pub fn put_maps(
     line: &mut Line,
     alloc: Global,

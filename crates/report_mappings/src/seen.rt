@@ -8,11 +8,11 @@ use map_access::Access;
 use std::alloc::Global;
 use ttm_base::{BufId, ItemList, NoMemory};
 
-/// Of each page the number of a command.
+/// For each page the number of a command.
 type Numbers = ItemList<u64>;
 
-/// Of each page of each buffer the number, counted from 1, of the peek or poke that met it last, or 0 where none did since it came. It grows as
-/// pages are met.
+/// For each page of each buffer the number, counted from 1, of the peek or poke that met it last, or 0 where none did since it came. It
+/// grows as pages are met.
 pub(crate) type Seen = ItemList<Numbers>;
 
 fn number_at(pages: &Numbers, page: u64) -> u64
@@ -24,7 +24,7 @@ fn number_at(pages: &Numbers, page: u64) -> u64
     }
 }
 
-/// The number of a page of a buffer.
+/// Returns the number of page `page` of buffer `b`, 0 if it has none.
 pub(crate) fn seen_at(seen: &Seen, b: BufId, page: u64) -> u64
     ensures { result ≡ words.seen_at seen.now b.0 page }
 {
@@ -34,7 +34,7 @@ pub(crate) fn seen_at(seen: &Seen, b: BufId, page: u64) -> u64
     }
 }
 
-/// Makes room for so many pages.
+/// Makes room for `len` pages.
 fn grow(pages: &mut Numbers, len: usize) -> Result<(), NoMemory>
     ensures long { OnOk result (len ≤ length pages.new) }
     ensures same { OnOk result ((i : ℕ) → words.number_at pages.new i ≡ words.number_at pages.old i) }
@@ -45,7 +45,7 @@ fn grow(pages: &mut Numbers, len: usize) -> Result<(), NoMemory>
     Ok(())
 }
 
-/// Gives a page a number.
+/// Gives page `page` the number `number`.
 fn set_number(pages: &mut Numbers, page: u64, number: u64) -> Result<(), NoMemory>
     requires { page < 18446744073709551615 }
     ensures { OnOk result ((i : ℕ) → words.number_at pages.new i ≡ (if page == i then number else words.number_at pages.old i)) }
@@ -55,7 +55,7 @@ fn set_number(pages: &mut Numbers, page: u64, number: u64) -> Result<(), NoMemor
     Ok(())
 }
 
-/// Makes room for so many buffers.
+/// Makes room for `len` buffers.
 fn grow_seen(seen: &mut Seen, alloc: Global, len: usize) -> Result<(), NoMemory>
     ensures long { OnOk result (len ≤ length seen.new) }
     ensures same { OnOk result ((c : ℕ) → unwrap_or (slice_get seen.new c) [] ≡ unwrap_or (slice_get seen.old c) []) }
@@ -66,7 +66,7 @@ fn grow_seen(seen: &mut Seen, alloc: Global, len: usize) -> Result<(), NoMemory>
     Ok(())
 }
 
-/// Gives a page of a buffer a number.
+/// Gives page `page` of buffer `b` the number `number`.
 fn meet(seen: &mut Seen, alloc: Global, b: BufId, page: u64, number: u64) -> Result<(), NoMemory>
     requires { page < 18446744073709551615 }
     ensures { OnOk result ((c i : ℕ) → words.seen_at seen.new c i ≡ (if (c == b.0) && (page == i) then number else words.seen_at seen.old c i)) }
@@ -75,7 +75,7 @@ fn meet(seen: &mut Seen, alloc: Global, b: BufId, page: u64, number: u64) -> Res
     set_number(seen.get_mut(b.0 as usize), page, number)
 }
 
-/// Gives each page of an access a number.
+/// Gives each page of `access` the number `number`.
 pub(crate) fn meet_pages(
     seen: &mut Seen,
     alloc: Global,
@@ -90,7 +90,7 @@ pub(crate) fn meet_pages(
     Ok(())
 }
 
-/// Takes the number of a page away.
+/// Takes the number of page `page` away.
 fn clear_number(pages: &mut Numbers, page: u32)
     ensures { (i : ℕ) → words.number_at pages.new i ≡ (if page == i then 0 else words.number_at pages.old i) }
 {
@@ -99,7 +99,7 @@ fn clear_number(pages: &mut Numbers, page: u32)
     }
 }
 
-/// Takes the number of a page of a buffer away.
+/// Takes the number of page `page` of buffer `b` away.
 fn leave_page(seen: &mut Seen, b: BufId, page: u32)
     ensures { (c i : ℕ) → words.seen_at seen.new c i ≡ (if (c == b.0) && (page == i) then 0 else words.seen_at seen.old c i) }
 {
@@ -108,7 +108,7 @@ fn leave_page(seen: &mut Seen, b: BufId, page: u32)
     }
 }
 
-/// Takes the numbers of a buffer's pages away.
+/// Takes the numbers of the pages of buffer `b` away.
 fn leave_buffer(seen: &mut Seen, b: BufId)
     ensures { (c i : ℕ) → words.seen_at seen.new c i ≡ (if c == b.0 then 0 else words.seen_at seen.old c i) }
 {
@@ -117,7 +117,7 @@ fn leave_buffer(seen: &mut Seen, b: BufId)
     }
 }
 
-/// Takes the numbers of those pages away that leave by an entry.
+/// Takes away the numbers of the pages that leave their place by an entry of this `kind`.
 pub(crate) fn leave(seen: &mut Seen, kind: &Kind)
     ensures { (c i : ℕ) → words.seen_at seen.new c i ≡ left_by kind.now c i (words.seen_at seen.old c i) }
 {

@@ -17,7 +17,7 @@ use std::alloc::Global;
 use text_line::{Line, name_of, put_numbered};
 use ttm_base::{BufId, NoMemory, Span};
 
-/// Puts a word and the range of a step.
+/// Puts a word and the range of a step into `line`.
 fn put_range(line: &mut Line, word: &[u8], range: Span) -> Result<(), NoMemory>
     ensures { OnOk result (line.new ≡ line.old ++ spaced_out (word.now ∷ span_word range ∷ [])) }
 {
@@ -26,7 +26,7 @@ fn put_range(line: &mut Line, word: &[u8], range: Span) -> Result<(), NoMemory>
     put_span(line, range)
 }
 
-/// Puts what stays of a mapping.
+/// Puts what stays of a mapping into `line`: the ranges `before` and `after` the one that goes.
 fn put_kept(line: &mut Line, before: Option<Span>, after: Option<Span>) -> Result<(), NoMemory>
     ensures { OnOk result (line.new ≡ line.old ++ spans_word (option_to_list before ++ option_to_list after)) }
 {
@@ -66,7 +66,7 @@ fn put_map(
     line.number(u64::from(off))
 }
 
-/// Puts the words of a step.
+/// Puts the words of `step` into `line`.
 fn put_step(line: &mut Line, script: &Script, step: &VStep) -> Result<(), NoMemory>
     ensures { OnOk result (line.new ≡ line.old ++ spaced_out (step_words script.now step.now)) }
 {
@@ -81,7 +81,7 @@ fn put_step(line: &mut Line, script: &Script, step: &VStep) -> Result<(), NoMemo
     }
 }
 
-/// Puts the line of a step of a thread's request, which has a number among its requests.
+/// Puts the line of a step into `line`. The step is one of the request numbered `number` of the thread.
 fn put_step_line(
     line: &mut Line,
     script: &Script,
@@ -97,7 +97,7 @@ fn put_step_line(
     line.end_line()
 }
 
-/// Puts the lines of a request.
+/// Puts the lines of the request numbered `number` into `line`.
 fn put_request(
     line: &mut Line,
     script: &Script,
@@ -119,7 +119,7 @@ fn is_request(kind: &MarkKind) -> bool
     matches!(kind, MarkKind::Vmap { .. } | MarkKind::Vunmap { .. })
 }
 
-/// It is a request of the thread.
+/// Returns whether `mark` is a request of the thread numbered `thread`.
 fn is_asked_by(thread: u64, mark: &Mark) -> bool
     ensures { result ≡ words.is_asked_by thread mark.now }
 {
@@ -132,14 +132,14 @@ fn is_vmap(kind: &MarkKind) -> bool
     matches!(kind, MarkKind::Vmap { .. })
 }
 
-/// The script has a line that maps pages of an address space.
+/// Returns whether the script has a line that maps pages of an address space.
 pub fn has_vmap(script: &Script) -> bool
     ensures { result ≡ list_any (λ m. marks.is_vmap m.kind) script.now.marks }
 {
     script.marks.items().iter().any(|mark| is_vmap(&mark.kind))
 }
 
-/// Answers a request, and tells its steps.
+/// Answers `request` in `space`, and puts its steps into `steps`.
 fn answer(space: &mut Space, request: &MarkKind, steps: &mut VSteps) -> Result<(), NoMemory>
     requires request { marks.is_request request.now ≡ true }
     requires inside { IsTrue (is_in_space request.now) }
@@ -154,7 +154,7 @@ fn answer(space: &mut Space, request: &MarkKind, steps: &mut VSteps) -> Result<(
     }
 }
 
-/// Puts the steps of a thread's requests.
+/// Puts the steps of a thread's requests into `line`.
 fn put_thread_steps(
     line: &mut Line,
     alloc: Global,
@@ -178,7 +178,7 @@ fn put_thread_steps(
     Ok(())
 }
 
-/// Puts the steps of all threads.
+/// Puts the steps of all threads into `line`.
 fn put_all_steps(line: &mut Line, alloc: Global, script: &Script) -> Result<(), NoMemory>
     requires requests { IsTrue (are_in_spaces script.now) }
     ensures { OnOk result (line.new ≡ line.old ++ flat_map (thread_steps script.now) (thread_numbers script.now)) }
@@ -189,7 +189,8 @@ fn put_all_steps(line: &mut Line, alloc: Global, script: &Script) -> Result<(), 
     Ok(())
 }
 
-/// Puts the report's part on address spaces, which is empty where no line maps pages of one. A step is found in logarithmic time.
+/// Puts the report's part on address spaces into `line`, which is empty where no line maps pages of one. A step is found in logarithmic
+/// time.
 pub fn put_spaces(line: &mut Line, alloc: Global, script: &Script) -> Result<(), NoMemory>
     requires requests { IsTrue (are_in_spaces script.now) }
     ensures { OnOk result (line.new ≡ line.old ++ spaces_part script.now) }

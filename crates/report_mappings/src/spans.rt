@@ -25,7 +25,7 @@ pub fn put_spans(line: &mut Line, spans: &[Span]) -> Result<(), NoMemory>
     }
 }
 
-/// Puts each span after a comma.
+/// Puts each span into `line`, a comma before it.
 fn put_more_spans(line: &mut Line, spans: &[Span]) -> Result<(), NoMemory>
     ensures { OnOk result (line.new ≡ line.old ++ behind_each 44 (map span_word spans.now)) }
 {

@@ -9,7 +9,7 @@ use report_mappings::spans::put_spans;
 use text_line::{Line, mem_word, name_of, put_actor, put_hex, put_numbered};
 use ttm_base::{BufId, Deny, Mem, NoMemory, Span};
 
-/// Makes the line of an entry.
+/// Makes `line` the line of `entry`, which is numbered `number`.
 pub(crate) fn make_entry_line(
     line: &mut Line,
     script: &Script,
@@ -27,7 +27,7 @@ pub(crate) fn make_entry_line(
     line.end_line()
 }
 
-/// The first word of an entry's text.
+/// Returns the first word of an entry's text.
 fn verb(kind: &Kind) -> &'static [u8]
     ensures { (script : _) → slice_get (kind_words script kind.now) 0 ≡ Some result.now }
 {
@@ -61,7 +61,7 @@ fn verb(kind: &Kind) -> &'static [u8]
     }
 }
 
-/// Puts the other words of an entry's text.
+/// Puts the other words of an entry's text into `line`.
 fn put_arguments(line: &mut Line, script: &Script, kind: &Kind) -> Result<(), NoMemory>
     ensures { OnOk result (line.new ≡ line.old ++ spaced_out (drop 1 (kind_words script.now kind.now))) }
 {
@@ -100,7 +100,7 @@ fn put_arguments(line: &mut Line, script: &Script, kind: &Kind) -> Result<(), No
     }
 }
 
-/// Puts a buffer's name and numbers.
+/// Puts the name of buffer `b` and `numbers` into `line`.
 fn put_numbers(line: &mut Line, script: &Script, b: BufId, numbers: &[u64]) -> Result<(), NoMemory>
     ensures { OnOk result (line.new ≡ line.old ++ spaced_out (name_of script.now b ∷ map decimal numbers.now)) }
 {
@@ -111,7 +111,7 @@ fn put_numbers(line: &mut Line, script: &Script, b: BufId, numbers: &[u64]) -> R
     Ok(())
 }
 
-/// Puts a buffer's name, and numbers of pages, frames or slots.
+/// Puts the name of buffer `b`, and the numbers of pages, frames or slots, into `line`.
 fn put_pages(line: &mut Line, script: &Script, b: BufId, numbers: &[u32]) -> Result<(), NoMemory>
     ensures { OnOk result (line.new ≡ line.old ++ spaced_out (name_of script.now b ∷ map decimal numbers.now)) }
 {
@@ -195,7 +195,7 @@ fn put_causes(line: &mut Line, script: &Script, rows: &[CauseRow]) -> Result<(),
     }
 }
 
-/// Puts each cause after a comma.
+/// Puts each cause into `line`, a comma before it.
 fn put_more_causes(line: &mut Line, script: &Script, rows: &[CauseRow]) -> Result<(), NoMemory>
     ensures { OnOk result (line.new ≡ line.old ++ behind_each 44 (map (cause_row_word script.now) rows.now)) }
 {
@@ -246,7 +246,7 @@ fn put_packet(line: &mut Line, num: u64, k: u32, piece: &[u8]) -> Result<(), NoM
     put_hex(line, piece)
 }
 
-/// Puts what a result shows.
+/// Puts what a result shows into `line`.
 fn put_shown(line: &mut Line, shown: &Shown) -> Result<(), NoMemory>
     ensures { OnOk result (line.new ≡ line.old ++ spaced_out (shown_words shown.now)) }
 {
@@ -257,7 +257,7 @@ fn put_shown(line: &mut Line, shown: &Shown) -> Result<(), NoMemory>
     }
 }
 
-/// Puts what the report's results say of an answer, and nothing for another entry.
+/// Puts what the report's results say of an answer into `line`, and nothing for another entry.
 pub(crate) fn put_answer(line: &mut Line, kind: &Kind) -> Result<(), NoMemory>
     ensures { OnOk result (line.new ≡ line.old ++ spaced_out (unwrap_or (answer_words kind.now) [])) }
 {
@@ -292,7 +292,7 @@ fn put_find(line: &mut Line, mem: Mem, spans: &[Span]) -> Result<(), NoMemory>
     put_spans(line, spans)
 }
 
-/// The name of a refusal.
+/// Returns the name of the refusal `deny`.
 fn deny_word(deny: Deny) -> &'static [u8]
     ensures { result.now ≡ deny_word deny }
 {

@@ -25,7 +25,7 @@ use std::alloc::Global;
 use text_line::{Line, put_numbered};
 use ttm_base::{Actor, NoMemory};
 
-/// Why not all of a report was written.
+/// The reason why not all of a report was written.
 #[derive(Clone, Copy, Debug, PartialEq, Eq)]
 pub enum WriteFault {
     Failed,
@@ -52,7 +52,7 @@ impl From<NoMemory> for WriteFault {
     }
 }
 
-/// Writes each line of a text as a piece of its own.
+/// Writes each line of `text` as a piece of its own.
 fn write_lines<K: Sink>(text: &[u8], sink: &mut K) -> Result<(), WriteFault>
     requires { IsTrue (are_lines text.now) }
     ensures text { Writes result (K.written sink.old) (K.written sink.new) text.now }
@@ -100,7 +100,7 @@ fn write_entries<K: Sink>(
     Ok(())
 }
 
-/// Writes a line of one word.
+/// Writes a line of `word`.
 fn write_heading<K: Sink>(line: &mut Line, word: &[u8], sink: &mut K) -> Result<(), WriteFault>
     ensures text { Writes result (K.written sink.old) (K.written sink.new) (line_of (word.now ∷ [])) }
     ensures faults { K.faults sink.new ≡ faults_after_writing result (K.faults sink.old) }
@@ -118,7 +118,7 @@ fn make_heading(line: &mut Line, word: &[u8]) -> Result<(), NoMemory>
     line.end_line()
 }
 
-/// Writes a line of a word and a number.
+/// Writes a line of `word` and `number`.
 fn write_count<K: Sink>(
     line: &mut Line,
     word: &[u8],
@@ -142,7 +142,7 @@ fn make_count(line: &mut Line, word: &[u8], number: u64) -> Result<(), NoMemory>
     line.end_line()
 }
 
-/// Whether an entry answers a command of the thread.
+/// Returns whether `entry` answers a command of the thread numbered `thread`.
 fn answers(thread: u64, entry: &Entry) -> bool
     ensures { result ≡ is_some (answer_of thread entry.now) }
 {
@@ -164,7 +164,7 @@ fn is_answer(kind: &Kind) -> bool
     matches!(kind, Kind::Result { .. } | Kind::Refused { .. })
 }
 
-/// Writes the line of an answer, which has a number among those of its thread.
+/// Writes the line of an answer, the one numbered `number` of its thread.
 fn write_answer<K: Sink>(
     line: &mut Line,
     thread: u64,
@@ -259,7 +259,7 @@ fn make_account_line(
     line.end_line()
 }
 
-/// Puts a word and a number.
+/// Puts a word and a number into `line`.
 fn put_labelled(line: &mut Line, label: &[u8], number: u64) -> Result<(), NoMemory>
     ensures { OnOk result (line.new ≡ line.old ++ spaced_out (label.now ∷ decimal number ∷ [])) }
 {
@@ -283,7 +283,7 @@ fn write_accounts<K: Sink>(
     write_account(line, b"swap", sizes.swap, &accounts.swap, sink)
 }
 
-/// Writes the parts of a report before the results: its head and the entries.
+/// Writes the parts of a report before the results to `sink`: its head and the entries.
 pub fn write_journal<K: Sink>(
     line: &mut Line,
     script: &Script,
@@ -299,7 +299,7 @@ pub fn write_journal<K: Sink>(
     write_entries(line, script, journal, sink)
 }
 
-/// Writes the parts of a report after the entries: the results and the accounts.
+/// Writes the parts of a report after the entries to `sink`: the results and the accounts.
 pub fn write_outcome<K: Sink>(
     line: &mut Line,
     script: &Script,
@@ -317,14 +317,14 @@ pub fn write_outcome<K: Sink>(
     write_accounts(line, &script.sizes, accounts, sink)
 }
 
-/// The script maps a buffer, or pages of an address space.
+/// Returns whether the script maps a buffer, or pages of an address space.
 fn has_mappings(script: &Script) -> bool
     ensures { result ≡ (list_any (λ m. is_map m.kind) script.now.marks || list_any (λ m. is_vmap m.kind) script.now.marks) }
 {
     has_map(script) || has_vmap(script)
 }
 
-/// Makes the parts on mappings.
+/// Makes `line` the text of the report's parts on mappings.
 fn make_mappings(
     line: &mut Line,
     alloc: Global,
@@ -340,7 +340,7 @@ fn make_mappings(
     put_spaces(line, alloc, script)
 }
 
-/// Writes the parts of a report that follow the accounts, if the script has mappings: the faults of those by the CPU, and the steps of
+/// Writes the parts of a report that follow the accounts, if the script has mappings: the faults of the CPU's mappings, and the steps of
 /// address spaces.
 pub fn write_mappings<K: Sink>(
     line: &mut Line,
@@ -362,8 +362,8 @@ pub fn write_mappings<K: Sink>(
     write_lines(line.bytes(), sink)
 }
 
-/// Writes the report of a journal, each line as a piece of its own. The accounts are those of the state after the journal. After a refusal
-/// a front of the report was written, and not all.
+/// Writes the report of a journal, each line as a piece of its own. `accounts` are those of the state after the journal. After an error a
+/// prefix of the report was written, and not all.
 ///
 /// # Errors
 ///

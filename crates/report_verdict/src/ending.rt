@@ -11,13 +11,13 @@ use report_text::{Parsed, ReportBad, Rule, read_report};
 use std::alloc::Global;
 use ttm_base::NoMemory;
 
-/// Says what comes of a report.
+/// What comes of a report.
 #[derive(Clone, Copy)]
 pub enum Ending {
-    /// It is that of a legal, complete journal.
+    /// The report is that of a legal, complete journal.
     Accepted,
-    /// It isn't: `entry` is the first that isn't as it should be, and `rule` the first that it breaks. Entry 0 stands for the first two
-    /// lines, the one after the last for what follows the journal.
+    /// The report isn't that of a legal, complete journal: `entry` is the first that isn't as it should be, and `rule` the first that it
+    /// breaks. Entry 0 stands for the first two lines, the one after the last for what follows the journal.
     Rejected { entry: u64, rule: Rule },
 }
 

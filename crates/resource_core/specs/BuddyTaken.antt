@@ -92,7 +92,7 @@ first_can f size range topdown (suc k) c h = by (candidate f size range topdown 
 
 -- ---- the choice
 
--- the blocks after one
+-- the blocks that are taken after one
 abbrev behind : ℕ → (ℕ → Bool) → ℕ → Span → Bool → ℕ → Candidate → Option (List Span)
 behind fuel f size range topdown left c = scattered fuel (less f c.block) size range topdown (suc left - (c.block.end - c.block.start))
 

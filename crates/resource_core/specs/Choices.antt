@@ -9,11 +9,11 @@ use Rattle.ttm_base.specs.BuddyChoice.{buddy_choice}
 use Rattle.ttm_base.specs.RangeChoice.{range_choice}
 use Rattle.ttm_base.specs.Reach.{reach}
 
--- in blocks: the alignment plays no part
+-- the spans in blocks, where the alignment plays no part
 abbrev pub buddy_spans : (ℕ → Bool) → ℕ → ℕ → ℕ → Place → Option (List Span)
 buddy_spans is_free size pages align place = buddy_choice is_free size (reach place size) place.topdown place.contig pages
 
--- as one range: of the smallest hole, or at the top of the highest
+-- the span as one range: of the smallest hole, or at the top of the highest
 abbrev pub mode_for : Bool → Mode
 mode_for true = High
 mode_for false = Best

@@ -16,7 +16,7 @@ use Rattle.resource_core.specs.Choices.{one_span, mode_for, range_spans}
 
 -- ---- holes
 
--- all its pages are free, and it ends within the size
+-- all pages of the span are free, and it ends within the size
 record IsHole (f : ℕ → Bool) (n : ℕ) (s : Span) : Type 0 where
   within : s.end ≤ n
   free : (page : ℕ) → has_page page s ≡ true → f page ≡ true

@@ -1,4 +1,4 @@
--- Who holds which pages of a memory type (ttm_resource_manager).
+-- The owners of the pages of a memory type (ttm_resource_manager).
 use Rattle.std.specs.Prelude.{◌≡◌, ℕ, zero, suc, ◌+◌, ◌≤◌, ◌==◌, Bool, true, false, List, [], ◌∷◌, Option, Some, None, All, length, map, sum_by, unwrap_or, if◌then◌else◌}
 use Rattle.std.specs.List.{list_any, flat_map}
 use Rattle.ttm_base.specs.declared.Span.{Span}
@@ -12,20 +12,21 @@ use Rattle.resource_core.specs.declared.holding.Holding.{Holding}
 use Rattle.resource_core.specs.declared.holding.OwnerKind.{OwnerKind}
 use Rattle.resource_core.specs.declared.holding.OwnerKind.TheVariants.{Live as OfLive, Target as OfTarget, Ghost as OfGhost}
 
--- what a manager is seen as: its number of pages, the owners with their spans, and its move job; a holding that is given back leaves its place to the last one
+-- what a manager is seen as: its number of pages, the owners with their spans, and its move job; where a holding is given
+-- back the last one takes its position
 pub record Resources : Type 0 where
   pub size : ℕ
   pub held : List Holding
   pub move_fence : Option JobId
 
--- the owners are one
+-- whether the owners are the same
 abbrev pub same_owner : Owner → Owner → Bool
 same_owner (Live a) (Live b) = a.0 == b.0
 same_owner (Target a) (Target b) = a.0 == b.0
 same_owner (Ghost a) (Ghost b) = a == b
 same_owner _ _ = false
 
--- the owner holds spans
+-- whether the owner has a holding
 abbrev pub holds : Owner → List Holding → Bool
 holds owner held = list_any (λ h. same_owner owner h.owner) held
 
@@ -38,11 +39,11 @@ abbrev pub AreDistinct : List Holding → Type 0
 AreDistinct [] = Unit {0}
 AreDistinct (h ∷ hs) = (holds h.owner hs ≡ false) × AreDistinct hs
 
--- no owner has the page
+-- whether no owner has the page
 abbrev pub is_free : List Holding → ℕ → Bool
 is_free held = is_free_beside (all_spans held)
 
--- what one owner holds is another's
+-- a holding, which is passed on if it is that of the first owner
 abbrev pub passed : Owner → Owner → Holding → Holding
 passed from to h = if same_owner from h.owner then record { owner = to; spans = h.spans } else h
 
@@ -54,12 +55,12 @@ abbrev pub before_last : Holding → List Holding → List Holding
 before_last h [] = []
 before_last h (x ∷ xs) = h ∷ before_last x xs
 
--- the last holding in front of the others, where it fills the place of one that is gone
+-- the last holding in front of the others, where it takes the position of one that was removed
 abbrev pub last_first : List Holding → List Holding
 last_first [] = []
 last_first (h ∷ hs) = last_or h hs ∷ before_last h hs
 
--- the owner holds nothing
+-- the holdings without that of the owner
 abbrev pub without_owner : Owner → List Holding → List Holding
 without_owner owner [] = []
 without_owner owner (h ∷ hs) = if same_owner owner h.owner then last_first hs else h ∷ without_owner owner hs
@@ -71,11 +72,11 @@ abbrev pub kept_by : Owner → List Holding → Option (List Span)
 kept_by owner [] = None
 kept_by owner (h ∷ hs) = if same_owner owner h.owner then Some h.spans else kept_by owner hs
 
--- the spans that an owner has: none where it has no holding
+-- the spans of an owner, or none where it has no holding
 abbrev pub spans_at : Owner → List Holding → List Span
 spans_at owner held = unwrap_or (kept_by owner held) []
 
--- none, where there is no span
+-- None where there is no span
 abbrev pub some_spans : List Span → Option (List Span)
 some_spans [] = None
 some_spans (s ∷ ss) = Some (s ∷ ss)
@@ -97,7 +98,7 @@ is_of OfTarget (Target b) = true
 is_of OfGhost (Ghost n) = true
 is_of _ _ = false
 
--- the pages of a holding, if its owner is of the kind
+-- the pages of a holding if its owner is of the kind, otherwise 0
 abbrev pub pages_if : OwnerKind → Holding → ℕ
 pages_if kind h = if is_of kind h.owner then pages_of h.spans else 0
 

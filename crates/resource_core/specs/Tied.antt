@@ -11,15 +11,15 @@ abbrev pub total : (Span → ℕ) → List Span → ℕ
 total weight [] = 0
 total weight (s ∷ ss) = weight s + total weight ss
 
--- 1 where the span has the page
+-- 1 if the span has the page, otherwise 0
 abbrev pub at_page : ℕ → Span → ℕ
 at_page page s = if has_page page s then 1 else 0
 
--- 1 where the span is this one
+-- 1 if the span is this one, otherwise 0
 abbrev pub at_span : Span → Span → ℕ
 at_span t s = if same_span t s then 1 else 0
 
--- two lists have the same spans, whatever the order: each weight has the same sum in both
+-- two lists have the same spans in any order: each weight has the same sum in both
 abbrev pub HaveSame : List Span → List Span → Type 0
 HaveSame xs ys = (weight : Span → ℕ) → total weight xs ≡ total weight ys
 

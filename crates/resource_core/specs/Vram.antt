@@ -1,4 +1,4 @@
--- Pages that are kept in ranges or in blocks, as it was said when they were made.
+-- Pages that are managed in ranges or in blocks, as was decided when the room was made.
 use Rattle.std.specs.Prelude.{ℕ, Bool, List, Option}
 use Rattle.ttm_base.specs.declared.Span.{Span}
 use Rattle.ttm_base.specs.declared.Place.{Place}

@@ -7,7 +7,7 @@ use place_list::reach;
 use std::alloc::Global;
 use ttm_base::{NoMemory, Place, Spans};
 
-/// The pages of a memory type in blocks (drm_buddy). The alignment plays no part. There are fewer than 2^31 pages.
+/// The pages of a memory type in blocks (drm_buddy), at most 2^31 - 1 of them. The alignment plays no part.
 pub type BuddyRoom = Room<BuddyManager>;
 
 impl SpanManager for BuddyManager {

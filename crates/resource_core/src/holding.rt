@@ -11,7 +11,7 @@ pub struct Holding {
     pub spans: Spans,
 }
 
-/// What an owner is: a live buffer, the target of a move that isn't done, or a ghost.
+/// The kind of an owner: a live buffer, the target of a move that isn't done, or a ghost.
 #[derive(Clone, Copy, PartialEq, Eq, Hash)]
 pub enum OwnerKind {
     Live,
@@ -19,7 +19,7 @@ pub enum OwnerKind {
     Ghost,
 }
 
-/// The owner is of a kind.
+/// Returns whether the owner is of the kind `kind`.
 fn is_of(kind: OwnerKind, owner: Owner) -> bool
     ensures { result ≡ words.is_of kind owner }
 {
@@ -31,7 +31,7 @@ fn is_of(kind: OwnerKind, owner: Owner) -> bool
     }
 }
 
-/// How many pages spans have.
+/// Returns the number of pages of spans.
 fn pages_of(spans: &[Span]) -> u32
     requires { lengths.pages_of spans.now < 2 ^ 32 }
     ensures { result ≡ lengths.pages_of spans.now }
@@ -43,7 +43,7 @@ fn pages_of(spans: &[Span]) -> u32
     pages
 }
 
-/// The pages of a holding, if its owner is of the kind.
+/// Returns the number of pages of a holding if its owner is of the kind `kind`, else 0.
 fn pages_if(kind: OwnerKind, holding: &Holding) -> u32
     requires { words.pages_if kind holding.now < 2 ^ 32 }
     ensures { result ≡ words.pages_if kind holding.now }
@@ -55,7 +55,7 @@ fn pages_if(kind: OwnerKind, holding: &Holding) -> u32
     }
 }
 
-/// How many pages the owners of a kind hold.
+/// Returns the number of pages that the owners of the kind `kind` hold.
 pub(crate) fn pages_by(held: &[Holding], kind: OwnerKind) -> u32
     requires { words.pages_by kind held.now < 2 ^ 32 }
     ensures { result ≡ words.pages_by kind held.now }

@@ -1,4 +1,4 @@
-//! Owners with their holdings, which stand in a list, and a table that tells where the holding of each owner stands.
+//! Owners with their holdings, which are in a list, and a table that knows the position of the holding of each owner.
 ghost use Rattle.std.specs.Prelude.{◌≡◌, ℕ, ◌+◌, ◌≤◌, ◌∷◌, ◌++◌, true, false, [], Some, None, OnOk, OnErr, is_some, length, if◌then◌else◌};
 ghost use Rattle.std.specs.Option.{option_copied};
 ghost use Rattle.std.specs.HashMap.{get_by, hash_map_len, spare};
@@ -16,14 +16,14 @@ use std::collections::HashMap;
 use std::marker::Model;
 use ttm_base::{NoMemory, Owner, Spans};
 
-/// An owner, as the table finds it.
+/// An owner, as the key under which the table has it.
 #[derive(Clone, Copy, PartialEq, Eq, Hash)]
 struct OwnerKey {
     kind: OwnerKind,
     number: u64,
 }
 
-/// The key of an owner.
+/// Returns the key of an owner.
 fn key_of(owner: Owner) -> OwnerKey
     ensures { result ≡ keys.key_of owner }
 {
@@ -43,7 +43,8 @@ fn key_of(owner: Owner) -> OwnerKey
     }
 }
 
-/// The holdings of owners. The table has room for twice as many places, so that an owner can be renamed without memory.
+/// The holdings of owners. The table has room for twice as many positions, so that an owner can be renamed without taking
+/// memory.
 #[derive(Drop)]
 pub struct Holdings {
     held: Vec<Holding>,
@@ -64,14 +65,14 @@ impl Model for Holdings {
     ghost invariant = { λ h. ArePlaced (λ key. get_by (same_key key) h.places) (hash_map_len h.places) h.held.items };
 }
 
-/// Where the holding of an owner stands.
+/// Returns the position of the holding of an owner, or None where it has none.
 fn place_of(places: &HashMap<OwnerKey, usize>, owner: Owner) -> Option<usize>
     ensures { result ≡ get_by (same_key (keys.key_of owner)) places.now }
 {
     places.get(&key_of(owner)).copied()
 }
 
-/// Where the holding stands of an owner that has one.
+/// Returns the position of the holding of an owner that has one.
 fn known_place(places: &HashMap<OwnerKey, usize>, owner: Owner) -> usize
     requires { is_some (get_by (same_key (keys.key_of owner)) places.now) ≡ true }
     ensures { get_by (same_key (keys.key_of owner)) places.now ≡ Some result }
@@ -82,7 +83,7 @@ fn known_place(places: &HashMap<OwnerKey, usize>, owner: Owner) -> usize
     }
 }
 
-/// Puts the place of a holding into the table, which has the owner or room for it.
+/// Puts the position of a holding into the table, which has the owner already or room for it.
 fn put(places: &mut HashMap<OwnerKey, usize>, key: OwnerKey, at: usize)
     requires { get_by (same_key key) places.old ≡ None → 1 ≤ spare places.old }
     ensures each { (other : OwnerKey) → get_by (same_key other) places.new ≡ (if same_key key other then Some at else get_by (same_key other) places.old) }
@@ -95,7 +96,7 @@ fn put(places: &mut HashMap<OwnerKey, usize>, key: OwnerKey, at: usize)
     }
 }
 
-/// Takes an owner out of the table.
+/// Removes an owner from the table.
 fn take_out(places: &mut HashMap<OwnerKey, usize>, key: OwnerKey)
     requires { is_some (get_by (same_key key) places.old) ≡ true }
     ensures each { (other : OwnerKey) → get_by (same_key other) places.new ≡ (if same_key key other then None else get_by (same_key other) places.old) }
@@ -105,7 +106,7 @@ fn take_out(places: &mut HashMap<OwnerKey, usize>, key: OwnerKey)
     places.remove(&key);
 }
 
-/// Makes the table again, in the room that it has.
+/// Fills the table again from the holdings, in the room that it has.
 fn place_all(places: &mut HashMap<OwnerKey, usize>, held: &[Holding])
     requires distinct { words.AreDistinct held.now }
     requires room { length held.now ≤ hash_map_len places.old + spare places.old }
@@ -119,7 +120,7 @@ fn place_all(places: &mut HashMap<OwnerKey, usize>, held: &[Holding])
 }
 
 impl Holdings {
-    /// No holdings.
+    /// Returns no holdings.
     pub(crate) fn new(alloc: Global) -> Holdings
         ensures { result ≡ [] }
     {
@@ -129,21 +130,21 @@ impl Holdings {
         }
     }
 
-    /// The holdings, in the order of their places.
+    /// Lends the holdings, in the order of their positions.
     pub(crate) fn items(&self) -> &[Holding]
         ensures { result.now ≡ self.now }
     {
         self.held.as_slice()
     }
 
-    /// The owner has a holding.
+    /// Returns whether the owner has a holding.
     pub(crate) fn holds(&self, owner: Owner) -> bool
         ensures { result ≡ words.holds owner self.now }
     {
         place_of(&self.places, owner).is_some()
     }
 
-    /// The spans of an owner.
+    /// Lends the spans of an owner, or returns None where it has no holding.
     pub(crate) fn spans_of(&self, owner: Owner) -> Option<&Spans>
         ensures { option_copied result ≡ words.kept_by owner self.now }
     {
@@ -151,7 +152,7 @@ impl Holdings {
         Some(&self.held[at].spans)
     }
 
-    /// Adds a holding at the end. After a refusal nothing is changed.
+    /// Adds a holding at the end. Where memory is refused nothing is changed.
     pub(crate) fn add(&mut self, owner: Owner, spans: Spans) -> Result<(), NoMemory>
         requires { words.holds owner self.old ≡ false }
         ensures ok { OnOk result (self.new ≡ self.old ++ record { owner = owner; spans = spans } ∷ []) }
@@ -164,7 +165,7 @@ impl Holdings {
         Ok(())
     }
 
-    /// Makes the holding of an owner another's, in its place. It takes no memory.
+    /// Gives the holding of the owner `from` to the owner `to`, at the same position. It takes no memory.
     pub(crate) fn rename(&mut self, from: Owner, to: Owner)
         requires from { words.holds from self.old ≡ true }
         requires to { words.holds to self.old ≡ false }
@@ -182,7 +183,7 @@ impl Holdings {
         put(&mut self.places, new, at);
     }
 
-    /// Takes the holding of an owner out, and lends its spans. The last holding fills its place. It takes no memory.
+    /// Removes the holding of an owner and returns its spans. The last holding takes its position. It takes no memory.
     pub(crate) fn remove(&mut self, owner: Owner) -> Spans
         requires { words.holds owner self.old ≡ true }
         ensures left { self.new ≡ words.without_owner owner self.old }

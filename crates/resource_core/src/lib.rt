@@ -1,4 +1,5 @@
-//! Who holds which pages of a memory type (ttm_resource_manager): live buffers, targets of moves that aren't done, and ghosts.
+//! The owners of the pages of a memory type (ttm_resource_manager): live buffers, targets of moves that aren't done, and
+//! ghosts.
 #![tactic(auto)]
 
 mod buddy;

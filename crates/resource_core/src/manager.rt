@@ -10,15 +10,16 @@ use crate::holding::OwnerKind;
 use std::alloc::Global;
 use ttm_base::{JobId, NoMemory, Owner, Place, Spans};
 
-/// Why a request got no pages.
+/// The reason why a request got no pages.
 #[derive(Clone, Copy, Debug, PartialEq, Eq)]
 pub enum TakeFault {
-    /// The free pages have no choice for it.
+    /// The choice finds no spans among the free pages.
     NoRoom,
     NoMemory,
 }
 
-/// How many pages are free, and how many are held by live buffers, by targets of moves that aren't done, and by ghosts.
+/// The number of pages that are free, and of those that are held by live buffers, by targets of moves that aren't done, and
+/// by ghosts.
 #[derive(Clone, Copy, PartialEq, Eq)]
 pub struct Lengths {
     pub free: u32,
@@ -29,15 +30,15 @@ pub struct Lengths {
 
 /// The pages of a memory type, by the owners that hold them.
 pub trait Manager {
-    /// What the manager is seen as.
+    /// The resources as which the manager is seen.
     ghost resources: { Self → Resources };
 
-    /// The rule of the manager, which no call changes: the spans that a request takes among the free pages of a size, for a number of
-    /// pages, an alignment, and a place.
+    /// The rule of the manager, which no call changes: the spans that a request takes among the free pages of a size, for a
+    /// number of pages, an alignment, and a place.
     ghost choice: { Self → (ℕ → Bool) → ℕ → ℕ → ℕ → Place → Option (List Span) };
 
-    /// Gives an owner `pages` pages that a place reaches, by the manager's choice: from a multiple of `align` on, in pages, where
-    /// the manager heeds it. The owner's holding comes last. After a refusal nothing is changed.
+    /// Takes `pages` pages that a place reaches for an owner, by the manager's choice: from a multiple of `align` pages on,
+    /// if the manager heeds alignments. The owner's holding comes last. After an error nothing is changed.
     fn take(
         &mut self,
         alloc: Global,
@@ -58,7 +59,8 @@ pub trait Manager {
         ensures fence { (resources self.new).move_fence ≡ (resources self.old).move_fence }
         ensures rule { choice self.new ≡ choice self.old };
 
-    /// Gives an owner spans of free pages, apart from each other. Its holding comes last. After a refusal nothing is changed.
+    /// Holds spans of free pages, apart from each other, for an owner. Its holding comes last. Where memory is refused
+    /// nothing is changed.
     fn hold(&mut self, owner: Owner, spans: &Spans) -> Result<(), NoMemory>
         requires fresh { holds owner (resources self.old).held ≡ false }
         requires some { 1 ≤ length spans.now }
@@ -67,7 +69,8 @@ pub trait Manager {
         ensures err { OnErr result (resources self.new ≡ resources self.old) }
         ensures rule { choice self.new ≡ choice self.old };
 
-    /// The spans that `take` gives, of which none is taken: `hold` may be given them. The manager stays as it was.
+    /// Returns the spans that `take` would take, and takes none. `hold` may be called with them. The manager stays as it
+    /// was.
     fn choose(
         &mut self,
         alloc: Global,
@@ -85,28 +88,28 @@ pub trait Manager {
         ensures same { resources self.new ≡ resources self.old }
         ensures rule { choice self.new ≡ choice self.old };
 
-    /// Makes the pages of an owner those of another. It takes no memory.
+    /// Passes the pages of the owner `from` to the owner `to`. It takes no memory.
     fn pass(&mut self, from: Owner, to: Owner)
         requires from { holds from (resources self.old).held ≡ true }
         requires to { holds to (resources self.old).held ≡ false }
         ensures held { resources self.new ≡ record (resources self.old) { held = renamed from to (resources self.old).held } }
         ensures rule { choice self.new ≡ choice self.old };
 
-    /// Frees the pages of an owner, and leaves the place of its holding to the last one. It takes no memory.
+    /// Frees the pages of an owner. The last holding takes the position of its holding. It takes no memory.
     fn give(&mut self, owner: Owner)
         requires { holds owner (resources self.old).held ≡ true }
         ensures held { resources self.new ≡ record (resources self.old) { held = without_owner owner (resources self.old).held } }
         ensures rule { choice self.new ≡ choice self.old };
 
-    /// The owner holds pages.
+    /// Returns whether the owner holds pages.
     fn holds(&self, owner: Owner) -> bool
         ensures { result ≡ holds owner (resources self.now).held };
 
-    /// The spans that the owner holds.
+    /// Lends the spans that the owner holds, or returns None where it holds none.
     fn spans_of(&self, owner: Owner) -> Option<&Spans>
         ensures { option_copied result ≡ kept_by owner (resources self.now).held };
 
-    /// How many pages are free, and how many the owners of each kind hold.
+    /// Returns how many pages are free, and how many the owners of each kind hold.
     fn lengths(&self) -> Lengths
         ensures free { result.free ≡ count_free (is_free (resources self.now).held) (resources self.now).size }
         ensures live { result.live ≡ pages_by OwnerKind.Live (resources self.now).held }
@@ -114,8 +117,8 @@ pub trait Manager {
         ensures ghosts { result.ghosts ≡ pages_by OwnerKind.Ghost (resources self.now).held }
         ensures sum { result.free + result.live + result.targets + result.ghosts ≡ (resources self.now).size };
 
-    /// Tells what holds of every manager: no page is in two spans, every span has pages and ends within the size, no owner has
-    /// two holdings, and each holding has a span. It does nothing.
+    /// Tells what holds of every manager: no page is in two spans, every span has pages and ends within the size, no owner
+    /// has two holdings, and each holding has a span. The call does nothing: its contract is the law.
     fn laws(&self)
         ensures once { (page : ℕ) → count_by (has_page page) (all_spans (resources self.now).held) ≤ 1 }
         ensures some { All (λ s. s.start < s.end) (all_spans (resources self.now).held) }
@@ -123,11 +126,11 @@ pub trait Manager {
         ensures owners { AreDistinct (resources self.now).held }
         ensures spans { HaveSpans (resources self.now).held };
 
-    /// The move job: the last one that was set.
+    /// Returns the move job, which is the last one that was set, or None where none was.
     fn move_fence(&self) -> Option<JobId>
         ensures { result ≡ (resources self.now).move_fence };
 
-    /// Keeps a job as the move job in place of the one before.
+    /// Keeps a job as the move job, instead of the one before.
     fn set_move_fence(&mut self, job: JobId)
         ensures fence { resources self.new ≡ record (resources self.old) { move_fence = Some job } }
         ensures rule { choice self.new ≡ choice self.old };

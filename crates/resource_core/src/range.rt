@@ -12,14 +12,14 @@ use ttm_base::{Mode, NoMemory, Place, Span, Spans};
 /// The pages of a memory type in ranges (drm_mm).
 pub type RangeRoom = Room<RangeManager>;
 
-/// Where a range is taken: in the smallest hole, or at the top of the highest.
+/// Returns how a hole is chosen: the smallest hole, or for `topdown` the top of the highest.
 fn mode_for(topdown: bool) -> Mode
     ensures { result ≡ words.mode_for topdown }
 {
     if topdown { Mode::High } else { Mode::Best }
 }
 
-/// Lets spans go that are held.
+/// Releases spans that are held.
 fn let_go(manager: &mut RangeManager, spans: &[Span])
     requires apart { IsApart manager.old.held }
     requires held { AreHeld spans.now manager.old.held }

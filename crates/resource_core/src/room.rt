@@ -14,7 +14,7 @@ use std::alloc::Global;
 use std::marker::Model;
 use ttm_base::{JobId, NoMemory, Owner, Place, Spans};
 
-/// Spans of pages that are held, with a rule by which a request takes more.
+/// A manager of spans of pages that are held, with a rule by which a request takes more.
 pub trait SpanManager: Drop {
     /// The number of pages.
     ghost size: { Self → ℕ };
@@ -22,19 +22,19 @@ pub trait SpanManager: Drop {
     /// The spans that are held, in rising order.
     ghost held: { Self → List Span };
 
-    /// The spans that a request takes among the free pages of a size: a number of pages, an alignment, and a place.
+    /// The spans that a request takes among the free pages of a size, for a number of pages, an alignment, and a place.
     ghost choice: { (ℕ → Bool) → ℕ → ℕ → ℕ → Place → Option (List Span) };
 
     /// The greatest number of pages.
     ghost most: { ℕ };
 
-    /// Pages of which none is held.
+    /// Returns a manager of `pages` pages, all of them free.
     fn with_pages(alloc: Global, pages: u32) -> Result<Self, NoMemory>
         ensures size { IfOk result (λ manager. size manager ≡ pages) }
         ensures held { IfOk result (λ manager. held manager ≡ []) }
         ensures most { IfOk result (λ manager. pages ≤ most) };
 
-    /// Takes the spans of the choice. After a refusal nothing is changed.
+    /// Takes the spans of the choice, and puts them into `out`. After an error nothing is changed.
     fn take(
         &mut self,
         pages: u32,
@@ -54,7 +54,7 @@ pub trait SpanManager: Drop {
         ensures same { OnErr result (held self.new ≡ held self.old) }
         ensures empty { OnErr result (out.new ≡ []) };
 
-    /// Gives the spans of the choice, of which none is taken.
+    /// Puts the spans of the choice into `out`, and takes none of them.
     fn choose(
         &mut self,
         pages: u32,
@@ -73,7 +73,7 @@ pub trait SpanManager: Drop {
         ensures none { result ≡ Err TakeFault.NoRoom → choice (is_free_beside (held self.old)) (size self.old) pages align place.now ≡ None }
         ensures empty { OnErr result (out.new ≡ []) };
 
-    /// Holds spans of free pages. After a refusal nothing is changed.
+    /// Holds spans of free pages. Where memory is refused nothing is changed.
     fn hold(&mut self, spans: &Spans) -> Result<(), NoMemory>
         requires apart { IsApart (held self.old) }
         requires within { AllBy (size self.old) (held self.old) }
@@ -82,23 +82,23 @@ pub trait SpanManager: Drop {
         ensures ok { OnOk result (held self.new ≡ with_blocks spans.now (held self.old)) }
         ensures err { OnErr result (held self.new ≡ held self.old) };
 
-    /// Gives spans back that are held. It takes no memory.
+    /// Gives back spans that are held. It takes no memory.
     fn put_back(&mut self, spans: &Spans)
         requires apart { IsApart (held self.old) }
         requires held { AreHeld spans.now (held self.old) }
         ensures size { size self.new ≡ size self.old }
         ensures held { held self.new ≡ without_all spans.now (held self.old) };
 
-    /// How many pages are free.
+    /// Returns how many pages are free.
     fn free_pages(&self) -> u32
         ensures { result + pages_of (held self.now) ≡ size self.now };
 
     ghost most_fits: { most < 2 ^ 32 };
 
-    /// A choice for some pages has a span.
+    /// A choice for at least one page has a span.
     ghost takes_some: { (free : ℕ → Bool) (size pages align : ℕ) (place : Place) (out : List Span) → 1 ≤ pages → choice free size pages align place ≡ Some out → 1 ≤ length out };
 
-    /// A choice is of free pages, each of them once.
+    /// A choice has only free pages, each of them once.
     ghost takes_free: { (free : ℕ → Bool) (size pages align : ℕ) (place : Place) (out : List Span) → size ≤ most → 1 ≤ pages → 1 ≤ align → choice free size pages align place ≡ Some out → AreTaken free size out };
 }
 
@@ -123,7 +123,7 @@ impl<M: SpanManager> Model for Room<M> {
     ghost invariant = { λ r. IsTied (M.size r.manager) M.most (M.held r.manager) r.held };
 }
 
-/// Adds a holding with a copy of spans.
+/// Adds a holding with a copy of spans. Where memory is refused nothing is changed.
 fn add_copy(held: &mut Holdings, owner: Owner, spans: &Spans) -> Result<(), NoMemory>
     requires { holds owner held.old ≡ false }
     ensures ok { OnOk result (held.new ≡ held.old ++ record { owner = owner; spans = spans.now } ∷ []) }
@@ -134,7 +134,7 @@ fn add_copy(held: &mut Holdings, owner: Owner, spans: &Spans) -> Result<(), NoMe
 }
 
 impl<M: SpanManager> Room<M> {
-    /// Pages that no owner holds, without a move job.
+    /// Returns a room of `pages` pages that no owner holds, without a move job.
     pub fn new(alloc: Global, pages: u32) -> Result<Room<M>, NoMemory>
         ensures { IfOk result (λ room. room ≡ record { size = pages; held = []; move_fence = None }) }
     {

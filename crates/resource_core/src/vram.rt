@@ -8,7 +8,7 @@ use std::alloc::Global;
 use std::marker::Model;
 use ttm_base::{JobId, NoMemory, Owner, Place, Spans};
 
-/// How pages are kept: in ranges (drm_mm), or in blocks (drm_buddy).
+/// How pages are managed: in ranges (drm_mm), or in blocks (drm_buddy).
 #[derive(Clone, Copy, PartialEq, Eq)]
 pub enum PagesKind {
     Ranges,
@@ -26,7 +26,7 @@ pub struct VramRoom {
     room: EitherRoom,
 }
 
-/// By hand, so that no crate above proves how each part goes.
+/// Names each part, so that no crate above proves how they are dropped.
 impl Drop for VramRoom {
     fn drop(self) {
         let Self { room: _ } = self;
@@ -44,7 +44,7 @@ impl Model for VramRoom {
 }
 
 impl VramRoom {
-    /// Pages that no owner holds, without a move job.
+    /// Returns a room of `pages` pages that no owner holds, without a move job.
     pub fn new(alloc: Global, pages: u32, kind: PagesKind) -> Result<VramRoom, NoMemory>
         ensures { IfOk result (λ room. room ≡ record { kind = kind; resources = record { size = pages; held = []; move_fence = None } }) }
     {
@@ -55,7 +55,7 @@ impl VramRoom {
         Ok(VramRoom { room })
     }
 
-    /// How the pages are kept.
+    /// Returns how the pages are managed.
     pub fn kind(&self) -> PagesKind
         ensures { result ≡ self.now.kind }
     {

@@ -1,4 +1,4 @@
-//! The reservation of a buffer: who holds it, and the jobs that use the buffer (dma_resv).
+//! The reservation of a buffer: the ticket that holds it, and the jobs that use the buffer (dma_resv).
 #![tactic(auto)]
 
 ghost use Rattle.std.specs.Prelude.{◌≡◌, ◌<◌, ◌↔◌, Some, None, IsSome, IsTrue, IsFalse, IfOk, length, replicate};
@@ -9,7 +9,7 @@ use std::alloc::Global;
 use std::marker::Model;
 use ttm_base::{JobId, NoMemory, Stamp, Usage};
 
-/// A reservation. Only `new` takes memory.
+/// The reservation of a buffer. Only `new` takes memory.
 #[derive(Drop)]
 pub struct Resv {
     holder: Option<Stamp>,
@@ -25,7 +25,7 @@ impl Model for Resv {
 }
 
 impl Resv {
-    /// A reservation that nobody holds, with no job, for so many contexts.
+    /// Returns a reservation that no ticket holds, with no job, for `contexts` contexts.
     pub fn new(alloc: Global, contexts: u32) -> Result<Resv, NoMemory>
         ensures { IfOk result (λ resv. resv ≡ record { holder = None; fences = replicate contexts nothing_kept }) }
     {
@@ -36,14 +36,15 @@ impl Resv {
         })
     }
 
-    /// The ticket that holds it.
+    /// Returns the ticket that holds the reservation, if one does.
     pub fn holder(&self) -> Option<Stamp>
         ensures { result ≡ self.now.holder }
     {
         self.holder
     }
 
-    /// Takes it with a ticket, unless it is held.
+    /// Takes the reservation for the ticket `stamp`, and returns true, unless the reservation is held already. Then nothing
+    /// changes.
     pub fn try_take(&mut self, stamp: Stamp) -> bool
         ensures free { IsTrue result ↔ self.old.holder ≡ None }
         ensures taken { IsTrue result → self.new ≡ record self.old { holder = Some stamp } }
@@ -56,7 +57,7 @@ impl Resv {
         true
     }
 
-    /// Lets it go.
+    /// Releases the reservation, which is held.
     pub fn release(&mut self)
         requires { IsSome self.old.holder }
         ensures { self.new ≡ record self.old { holder = None } }
@@ -64,7 +65,7 @@ impl Resv {
         self.holder = None;
     }
 
-    /// Adds a job that uses the buffer.
+    /// Adds a job that uses the buffer, with its usage.
     pub fn add_fence(&mut self, job: JobId, usage: Usage)
         requires known { job.ctx < length self.old.fences }
         requires num { 0 < job.num }
@@ -73,7 +74,8 @@ impl Resv {
         self.fences.add(job, usage);
     }
 
-    /// The job to wait for, among those of that usage and the lower ones that aren't done, as `FenceSet::need` names it.
+    /// Returns a job to wait for, among those of `usage` and the lower usages that aren't done, as `FenceSet::need` names
+    /// it.
     pub fn need(&self, usage: Usage, line: &Timeline) -> Option<JobId>
         requires { length self.now.fences ≡ length line.now }
         ensures { result ≡ needed usage line.now self.now.fences }
@@ -88,7 +90,7 @@ impl Resv {
         &self.fences
     }
 
-    /// Lets it go if it is held, and drops all jobs.
+    /// Releases the reservation if it is held, and drops all jobs.
     pub fn clear(&mut self)
         ensures { self.new ≡ record { holder = None; fences = replicate (length self.old.fences) nothing_kept } }
     {

@@ -1,4 +1,4 @@
-//! How the pages, frames and slots of a memory manager on its parts are held.
+//! Counts of how the pages, frames and slots of a memory manager are held, by its parts.
 #![tactic(auto)]
 
 ghost use Rattle.std.specs.Prelude.{◌≡◌};
@@ -14,7 +14,7 @@ use page_accounts::Accounts;
 use room_representation::Parts;
 use ttm_base::BufId;
 
-/// Counts what a buffer of the table holds, if it is live.
+/// Counts what the buffer `bo` of the table holds, if it is live.
 fn add_where_live(accounts: &mut Accounts, bo: &Bo)
     ensures { accounts.new ≡ with_where_live accounts.old (body_of bo.now) }
 {
@@ -23,8 +23,8 @@ fn add_where_live(accounts: &mut Accounts, bo: &Bo)
     }
 }
 
-/// Counts how the pages, frames and slots of the parts are held. What nobody holds is free, since nothing is held twice. Costs the
-/// buffers, their pages, and the ghosts; takes no memory.
+/// Counts how the pages, frames and slots of the parts are held. What nobody holds is free, since nothing is held twice. Costs time by the buffers,
+/// their pages, and the ghosts; takes no memory.
 pub fn accounts_of(parts: &Parts, script: &Script, before: &[Entry]) -> Accounts
     requires { AreHeld script.now before.now parts.now }
     ensures { AreAccountsOf script.now (state_of script.now before.now).core result }

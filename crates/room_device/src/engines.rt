@@ -14,7 +14,7 @@ use room_state::room_turns::{Rooms, Step, turn};
 use std::alloc::Global;
 use ttm_base::{Actor, Need, NoMemory};
 
-/// The bytes that the head's next packet shows.
+/// Returns the bytes that the next packet of the head of `engine` shows.
 fn shown_next(alloc: Global, rooms: &Rooms, engine: u32) -> Result<Bytes, NoMemory>
     requires { engine ≤ rooms.now.script.sizes.engines }
     ensures { IfOk result (λ bytes. bytes ≡ head_piece (world_behind rooms.now) engine) }
@@ -26,7 +26,7 @@ fn shown_next(alloc: Global, rooms: &Rooms, engine: u32) -> Result<Bytes, NoMemo
     Ok(bytes)
 }
 
-/// The head's next packet, once what the job waits for is done; after the last packet the job's end.
+/// Returns the entry that runs the head's next packet, once what the job waits for is done; after the last packet, the entry that ends the job.
 fn next_of_head(alloc: Global, rooms: &Rooms, engine: u32) -> Result<Result<Kind, Need>, NoMemory>
     requires { engine ≤ rooms.now.script.sizes.engines }
     ensures { IfOk result (λ next. entry_of rooms.now (actor.Engine engine) ≡ entry_by (actor.Engine engine) next) }
@@ -45,8 +45,8 @@ fn next_of_head(alloc: Global, rooms: &Rooms, engine: u32) -> Result<Result<Kind
     Ok(Ok(Kind::Packet { num, k, piece }))
 }
 
-/// The engine of a context goes on with the first job of it that isn't done: a packet runs, or the job ends after its last one. Context 0 is that
-/// of moves.
+/// Makes the next entry of the engine of a context, with the first job of it that isn't done: a packet runs, or the job ends after its last one.
+/// Context 0 is that of moves.
 ///
 /// # Errors
 ///

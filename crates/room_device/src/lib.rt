@@ -1,4 +1,4 @@
-//! One turn of any actor of a device on its rooms: of the calls that make entries, the one that serves what the actor is at.
+//! A turn of any actor of a device on its rooms: of the calls that make entries, the one that serves what the actor has to do.
 #![tactic(auto)]
 
 mod engines;

@@ -15,7 +15,7 @@ use swap_core::{depopulate, fill, is_depopulate_due, is_swap_out_due, swap_out_p
 use ttm_base::{Need, NoMemory};
 use validate_list::{act, lock, refuse, start};
 
-/// A search that finds no pages catches a buffer to evict; without one, the place at work is dry.
+/// Catches a buffer to evict for a search that finds no pages; without one, notes the place at work as dry.
 fn make_room(alloc: Global, rooms: &mut Rooms, thread: u32) -> Result<Step, NoMemory>
     requires stage { stage_of (task_of rooms.old.script (state_behind rooms.old) thread) ≡ stage.Search }
     requires none { finds_choice rooms.old.script (state_behind rooms.old) thread ≡ false }
@@ -29,7 +29,7 @@ fn make_room(alloc: Global, rooms: &mut Rooms, thread: u32) -> Result<Step, NoMe
     dry(alloc, rooms, thread)
 }
 
-/// A search takes the pages that it finds; without some, room is made.
+/// Takes the pages that a search finds; where it finds none, makes room.
 fn search(alloc: Global, rooms: &mut Rooms, thread: u32) -> Result<Step, NoMemory>
     requires { stage_of (task_of rooms.old.script (state_behind rooms.old) thread) ≡ stage.Search }
     ensures step { IfOk result (λ step. step ≡ step_of (entry_of rooms.old (actor.Thread thread))) }
@@ -42,7 +42,7 @@ fn search(alloc: Global, rooms: &mut Rooms, thread: u32) -> Result<Step, NoMemor
     make_room(alloc, rooms, thread)
 }
 
-/// A victim's pages go to slots as far as that is due, and then it is let go.
+/// Swaps out the pages of a victim as far as that is due, and then lets the victim go.
 fn empty(rooms: &mut Rooms, thread: u32) -> Result<Step, NoMemory>
     requires { stage_of (task_of rooms.old.script (state_behind rooms.old) thread) ≡ stage.Empty }
     ensures step { IfOk result (λ step. step ≡ step_of (entry_of rooms.old (actor.Thread thread))) }
@@ -56,7 +56,7 @@ fn empty(rooms: &mut Rooms, thread: u32) -> Result<Step, NoMemory>
     }
 }
 
-/// A failed search gives back what it took, first frames, then targets. With nothing left to give back a victim is skipped, and a command refused.
+/// Gives back what a failed search took, first frames, then targets. With nothing left to give back a victim is skipped, and a command refused.
 fn give_back(rooms: &mut Rooms, thread: u32) -> Result<Step, NoMemory>
     requires { stage_of (task_of rooms.old.script (state_behind rooms.old) thread) ≡ stage.Fail }
     ensures step { IfOk result (λ step. step ≡ step_of (entry_of rooms.old (actor.Thread thread))) }
@@ -71,7 +71,7 @@ fn give_back(rooms: &mut Rooms, thread: u32) -> Result<Step, NoMemory>
     }
 }
 
-/// A command does what it is for, and is answered. A Free, and a SwapOut of each page, are entries of their own.
+/// Does what a command is for, and answers it. A Free, and a SwapOut of each page, are entries of their own.
 fn work(alloc: Global, rooms: &mut Rooms, thread: u32) -> Result<Step, NoMemory>
     requires { stage_of (task_of rooms.old.script (state_behind rooms.old) thread) ≡ stage.Act }
     ensures step { IfOk result (λ step. step ≡ step_of (entry_of rooms.old (actor.Thread thread))) }
@@ -87,7 +87,7 @@ fn work(alloc: Global, rooms: &mut Rooms, thread: u32) -> Result<Step, NoMemory>
     }
 }
 
-/// A turn of a thread, by the stage in which it is. One that the script doesn't have is idle.
+/// Takes a turn of `thread`, by the stage in which it is. A thread that the script doesn't have is idle.
 pub(crate) fn turn_of_thread(
     alloc: Global,
     rooms: &mut Rooms,

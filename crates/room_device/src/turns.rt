@@ -9,7 +9,7 @@ use room_state::room_turns::{Rooms, Step};
 use std::alloc::Global;
 use ttm_base::{Actor, Need, NoMemory};
 
-/// A turn of an engine. One that the script doesn't have never has a job.
+/// Takes a turn of `engine`. An engine that the script doesn't have never has a job.
 fn turn_of_engine(alloc: Global, rooms: &mut Rooms, engine: u32) -> Result<Step, NoMemory>
     ensures step { IfOk result (λ step. step ≡ step_of (entry_of rooms.old (actor.Engine engine))) }
     ensures made { OnOk result (rooms.new ≡ after_step rooms.old (entry_of rooms.old (actor.Engine engine))) }
@@ -22,8 +22,8 @@ fn turn_of_engine(alloc: Global, rooms: &mut Rooms, engine: u32) -> Result<Step,
     run(alloc, rooms, engine)
 }
 
-/// A turn of an actor: its one legal entry is appended, or it is told what it needs first. A thread that the script doesn't have needs a command,
-/// and an engine that it doesn't have needs a job.
+/// Takes a turn of the actor `who`: appends its one legal entry, or returns what it needs first. A thread that the script doesn't have needs a
+/// command, and an engine that it doesn't have needs a job.
 ///
 /// # Errors
 ///

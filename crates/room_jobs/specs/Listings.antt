@@ -15,7 +15,7 @@ use Rattle.journal_model.specs.rules.Lists.{touched}
 use Rattle.room_representation.specs.lemma_room_lists.Listed.{AreListed}
 use Rattle.room_jobs.specs.Bodies.{body_at}
 
--- the buffer taken off its list, if it is on one
+-- the lists without buffer `b`, which stands on one if a listing is given
 abbrev pub unlisted_as : Order → BufId → Option Listing → Order
 unlisted_as o b None = o
 unlisted_as o b (Some x) = removed o b
@@ -23,7 +23,7 @@ unlisted_as o b (Some x) = removed o b
 abbrev pub unlisted : Order → BufId → Order
 unlisted o b = unlisted_as o b (listing_of o b)
 
--- the buffer listed again, if it is its last pin that goes
+-- the lists with buffer `b` on one again, if it is its last pin that goes
 abbrev pub unpinned : Script → Bos → Order → BufId → Order
 unpinned script bos o b =
     if (reservation_in bos.reservations b).pins == 1
@@ -40,13 +40,14 @@ pub record CanRelist (script : Script) (bos : Bos) (o : Order) (b : BufId) : Typ
   pub prio : (decl script b).prio < 4
   pub group : IsGroup o.groups (decl script b).group
 
--- buffers count as just used, one after another: where the order was that of a state, it is that of the state with them touched
+-- the buffers count as just used, one after another: where the order was that of a state, it is that of the state with them touched
 abbrev pub AreTouched : List BufId → Order → Order → Type 0
 AreTouched bs old new =
     (script : Script) (buffers : List (Option Buffer)) (reservations : List Reservation) (lists : List (List BufId)) → AreListed script buffers reservations lists old →
     AreListed script buffers reservations (fold (touched script buffers reservations) lists bs) new
 
--- by command: the buffer of a pin is on no list, that of an unpin is on one once no pin is left, those of any other that are held are touched
+-- the lists after the answer of a command: the buffer of a pin is on no list, that of an unpin is on one once no pin is left, those of any other
+-- that are held are touched
 abbrev pub AreRelisted : Script → Bos → List BufId → Command → Order → Order → Type 0
 AreRelisted script bos held (command.Pin b) old new = new ≡ unlisted old b
 AreRelisted script bos held (command.Unpin b) old new = new ≡ unpinned script bos old b

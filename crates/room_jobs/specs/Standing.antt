@@ -12,7 +12,7 @@ use Rattle.journal_model.specs.rules.Places.{frame_of, packet_place}
 use Rattle.bo_table.specs.declared.bo.Bo.{Bo}
 use Rattle.bo_table.specs.Seen.{Bos}
 
--- a buffer at hand, but for its fences
+-- the buffer that the table lends, without its fences
 abbrev pub body_in : Bo → Buffer
 body_in bo = record { mem = bo.mem; spans = bo.spans; table = bo.table; targets = bo.targets; fences = [] }
 
@@ -20,10 +20,11 @@ body_in bo = record { mem = bo.mem; spans = bo.spans; table = bo.table; targets 
 abbrev pub frame_place : List Loc → ℕ → PagePlace
 frame_place table page = place.Frame (unwrap_or (frame_of (unwrap_or (slice_get table page) loc.Zero)) 0)
 
--- the buffer of that number, if the table has one and it is live
+-- buffer `b`, if the table has it and it is live
 abbrev pub standing_in : Bos → BufId → Option Buffer
 standing_in t b = if nat_lt b.0 (length t.reservations) then live_in t.buffers b else None
 
--- a page of VRAM, an aperture page of a buffer in TT, or the frame of a buffer in SYSTEM; frame 0 where there is no such buffer
+-- how packets name a page: as a page of VRAM, an aperture page of a buffer in TT, or the frame of a buffer in SYSTEM; frame 0 where there is no such
+-- buffer
 abbrev pub standing_names : Bos → PageMap
 standing_names t = λ b. packet_place (unwrap_or (standing_in t b) (new_buffer 0))

@@ -11,15 +11,15 @@ use Rattle.fence_core.specs.Fences.{all_added}
 use Rattle.journal_model.specs.rules.Waits.{is_written, use_of}
 use Rattle.bo_table.specs.Seen.{Bos, fences_at, with_use}
 
--- at a buffer that it writes it waits for jobs of all usages, at one that it only reads for those up to Write
+-- up to which usage a job waits at a buffer: for jobs of all usages at one that it writes, and for those up to Write at one that it only reads
 abbrev pub waited_use : List Op → BufId → Usage
 waited_use ops b = if is_written ops b then Read else Write
 
--- a set with the jobs that it waits for at these buffers
+-- the set with the jobs that a job of `ops` waits for at the buffers `bs`
 abbrev pub with_waits : List Op → List (List Latest) → List Latest → List BufId → List Latest
 with_waits ops sets set bs = fold (λ s b. all_added (waited_use ops b) s (fences_at sets b)) set bs
 
--- the table once it uses these buffers
+-- the table once `job` uses the buffers `bs`
 abbrev pub with_uses : JobId → List Op → Bos → List BufId → Bos
 with_uses job ops t bs = fold (λ u b. with_use job (use_of ops b) u b) t bs
 
@@ -27,6 +27,6 @@ with_uses job ops t bs = fold (λ u b. with_use job (use_of ops b) u b) t bs
 abbrev pub AreWide : ℕ → List (List Latest) → Type 0
 AreWide contexts sets = (i : ℕ) → ForSome (slice_get sets i) (λ set. length set ≡ contexts)
 
--- and this context is one of them
+-- the jobs of each buffer are kept for the context `ctx`
 abbrev pub HaveContext : ℕ → List (List Latest) → Type 0
 HaveContext ctx sets = (i : ℕ) → ForSome (slice_get sets i) (λ set. ctx < length set)

@@ -6,6 +6,6 @@ use Rattle.journal_model.specs.declared.state.Course.{Course}
 use Rattle.journal_model.specs.rules.Commands.{commands_of}
 use Rattle.room_representation.specs.room_steps.Courses.{course_at}
 
--- the next one after those that the thread has answered
+-- the command after those that the thread has answered, if one is left
 abbrev pub work_of : Script → List Course → ℕ → Option Command
 work_of script courses thread = option_and_then (λ c. slice_get (commands_of script thread) c.answered) (course_at courses thread)

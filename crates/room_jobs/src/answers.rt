@@ -14,7 +14,7 @@ use state_words::named;
 use std::alloc::Global;
 use ttm_base::NoMemory;
 
-/// A thread's command is answered. What a read or a find shows is in the entry already.
+/// Answers the command of `thread`. What a read or a find shows is in the entry already.
 pub fn answer(
     parts: &mut Parts,
     alloc: Global,

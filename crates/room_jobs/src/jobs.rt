@@ -13,8 +13,8 @@ use room_representation::room_steps::has_made;
 use std::alloc::Global;
 use ttm_base::{JobId, NoMemory};
 
-/// The job of a thread's command is emitted on an engine: its packets name the pages of its buffers as they stand now, it waits for jobs that use
-/// these buffers, and it becomes one of them.
+/// Emits the job number `num` of the command of `thread` on `engine`: its packets name the pages of its buffers as they stand now, it waits for jobs
+/// that use these buffers, and it becomes one of them.
 pub fn arm(
     parts: &mut Parts,
     alloc: Global,

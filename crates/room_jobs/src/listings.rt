@@ -12,7 +12,7 @@ use room_representation::room_steps::touch;
 use state_words::has_buffer;
 use ttm_base::{BufId, NoMemory};
 
-/// Takes a buffer off its list, if it is on one.
+/// Takes buffer `b` off its list, if it is on one.
 fn unlist(lru: &mut Lru, b: BufId)
     ensures { lru.new ≡ unlisted lru.old b }
 {
@@ -21,7 +21,7 @@ fn unlist(lru: &mut Lru, b: BufId)
     }
 }
 
-/// Lists a buffer whose last pin goes.
+/// Puts buffer `b` on its list if its last pin goes.
 fn list_unpinned(lru: &mut Lru, bos: &BoTable, script: &Script, b: BufId) -> Result<(), NoMemory>
     requires { CanRelist script.now bos.now lru.old b }
     ensures ok { OnOk result (lru.new ≡ unpinned script.now bos.now lru.old b) }
@@ -35,7 +35,7 @@ fn list_unpinned(lru: &mut Lru, bos: &BoTable, script: &Script, b: BufId) -> Res
     lru.add(b, bo.mem, decl.prio, decl.group)
 }
 
-/// Those of some buffers that a thread holds count as just used, one after another.
+/// Makes those of the buffers `bs` that are in `held` count as just used, one after another.
 fn touch_held(lru: &mut Lru, held: &[BufId], bs: &[BufId])
     ensures { AreTouched (filter (words.has_buffer held.now) bs.now) lru.old lru.new }
 {
@@ -47,8 +47,8 @@ fn touch_held(lru: &mut Lru, held: &[BufId], bs: &[BufId])
     }
 }
 
-/// Lists buffers as the answer of a command asks: that of a pin is on no list, that of an unpin is on one once no pin is left, and those of
-/// any other that are held count as just used.
+/// Changes the lists as the answer of `command` asks: the buffer of a pin leaves its list, that of an unpin is put on one once no pin is left, and
+/// the named buffers of any other command that are held count as just used.
 pub(crate) fn relist(
     lru: &mut Lru,
     bos: &BoTable,

@@ -9,7 +9,7 @@ use state_words::{frame_of, name_in_spans};
 use std::alloc::Global;
 use ttm_base::{BufId, Loc, Mem, NoMemory, Op, Packet, PagePlace};
 
-/// The frame of a page, as packets name it.
+/// Returns the frame of page `page`, as packets name it.
 fn frame_in(places: &[Loc], page: u32) -> PagePlace
     ensures { result ≡ frame_place places.now page }
 {
@@ -19,7 +19,7 @@ fn frame_in(places: &[Loc], page: u32) -> PagePlace
     }
 }
 
-/// How packets name a page of a live buffer.
+/// Returns how packets name page `page` of the live buffer `bo`.
 fn packet_place(bo: &Bo, page: u32) -> PagePlace
     ensures { result ≡ places.packet_place (body_in bo.now) page }
 {
@@ -29,7 +29,7 @@ fn packet_place(bo: &Bo, page: u32) -> PagePlace
     }
 }
 
-/// The names of pages as the buffers of a table stand.
+/// The names of pages, by where the buffers of a table stand.
 #[derive(Drop)]
 struct Standing<'a> {
     bos: &'a BoTable,
@@ -52,7 +52,7 @@ impl PageNames for Standing<'_> {
     }
 }
 
-/// The packets of these operations, in order: cut at every page border of their buffers, as the buffers stand.
+/// Returns the packets of `ops`, in order, cut at every page border of their buffers, as the buffers stand.
 pub(crate) fn packets_of(alloc: Global, bos: &BoTable, ops: &[Op]) -> Result<Vec<Packet>, NoMemory>
     ensures { IfOk result (λ packets. packets.items ≡ words.packets_of (standing_names bos.now) ops.now) }
 {

@@ -9,7 +9,7 @@ use state_words::{is_written, use_of};
 use std::alloc::Global;
 use ttm_base::{BufId, JobId, NoMemory, Op, Usage};
 
-/// Up to which usage jobs are waited for before a job of these operations uses a buffer.
+/// Returns up to which usage jobs are waited for before a job of `ops` uses buffer `b`.
 fn waited_use(ops: &[Op], b: BufId) -> Usage
     ensures { result ≡ words.waited_use ops.now b }
 {
@@ -20,7 +20,7 @@ fn waited_use(ops: &[Op], b: BufId) -> Usage
     }
 }
 
-/// The jobs that a job of these operations waits for at these buffers.
+/// Returns the set of jobs that a job of `ops` waits for at the buffers `bs`.
 pub(crate) fn waits_at(
     alloc: Global,
     bos: &BoTable,
@@ -40,7 +40,7 @@ pub(crate) fn waits_at(
     Ok(waits)
 }
 
-/// A job of these operations joins the jobs that use these buffers.
+/// Adds `job`, which runs `ops`, to the jobs that use the buffers `bs`.
 pub(crate) fn add_uses(bos: &mut BoTable, job: JobId, ops: &[Op], bs: &[BufId])
     requires known { HaveContext job.ctx bos.old.fences }
     requires num { 0 < job.num }

@@ -9,7 +9,7 @@ use state_words::{commands_of, named};
 use std::alloc::Global;
 use ttm_base::{NoMemory, Op};
 
-/// The command that a thread is at.
+/// Returns the command that `thread` is at, or None where none is left.
 pub(crate) fn command_at_work<'a>(
     script: &'a Script,
     courses: &Courses,
@@ -22,7 +22,7 @@ pub(crate) fn command_at_work<'a>(
     commands_of(script, thread).get(course.answered as usize)
 }
 
-/// The operations of a job.
+/// Returns the operations of a job: none where `command` submits none.
 pub(crate) fn ops_of<'a>(command: Option<&'a Command>) -> &'a [Op]
     ensures { result.now ≡ rows.ops_of (option_copied command.entry) }
 {
@@ -32,7 +32,7 @@ pub(crate) fn ops_of<'a>(command: Option<&'a Command>) -> &'a [Op]
     }
 }
 
-/// The buffers that a command names, each once.
+/// Returns the buffers that `command` names, each once.
 pub(crate) fn named_by(alloc: Global, command: Option<&Command>) -> Result<BufIds, NoMemory>
     ensures { IfOk result (λ bs. bs ≡ commands.named_in (option_copied command.entry)) }
 {

@@ -14,7 +14,7 @@ use journal_model::Command;
 use state_words::page_at;
 use ttm_base::{Loc, Mem};
 
-/// Puts bytes on a page of a buffer.
+/// Writes `bytes` to page `page` of the buffer `bo`, from `off` on.
 fn put_on_page(stores: &mut Stores, bo: &Bo, page: u32, off: u32, bytes: &[u8])
     requires there { IsThere stores.old (places.page_at (as_buffer bo.now) page) }
     requires inside { off + length bytes.now ≤ PAGE }
@@ -40,7 +40,7 @@ fn put_on_page(stores: &mut Stores, bo: &Bo, page: u32, off: u32, bytes: &[u8])
     }
 }
 
-/// Puts bytes into a buffer from a place on, page by page.
+/// Writes `bytes` to the buffer `bo` from `off` on, page by page.
 fn put(stores: &mut Stores, bo: &Bo, off: u32, bytes: &[u8])
     requires pages { HavePages stores.old (as_buffer bo.now) (off + length bytes.now) }
     requires short { off + length bytes.now < 2 ^ 32 }
@@ -62,7 +62,7 @@ fn put(stores: &mut Stores, bo: &Bo, off: u32, bytes: &[u8])
     }
 }
 
-/// Puts the bytes of a write into its buffer. Any other command leaves all bytes.
+/// Writes the bytes of a write to its buffer. Any other command leaves all bytes as they are.
 pub(crate) fn write(stores: &mut Stores, bos: &BoTable, command: &Command)
     requires { (b : Id) (off : ℕ) (bytes : List ℕ) → command.now ≡ command_of.Write b off bytes → CanWrite bos.now stores.old b off bytes }
     ensures { HasWritten bos.now command.now stores.old stores.new }

@@ -10,12 +10,12 @@ use Rattle.ttm_base.specs.ListWords.{count_from}
 use Rattle.journal_model.specs.rules.ApplyMoves.{copy_of_page}
 use Rattle.journal_model.specs.rules.Places.{name_in_spans}
 
--- how packets name a page of a memory type
+-- how packets name a page of the memory type
 abbrev pub named : Mem → ℕ → PagePlace
 named Vram page = place.Vram page
 named Tt page = place.Aper page
 named System page = place.Frame 0
 
--- one copy of each page, from spans to spans
+-- the packets that copy each page, from the spans `sources` to the spans `targets`
 abbrev pub copies : ℕ → Mem → List Span → Mem → List Span → List Packet
 copies pages to targets from sources = map (λ i. copy_of_page (name_in_spans to targets i) (name_in_spans from sources i)) (count_from 1 pages 0)

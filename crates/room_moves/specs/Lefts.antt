@@ -22,7 +22,7 @@ ghost_of contexts x job num =
       jobs = added (replicate contexts nothing_kept) job Kernel;
     }
 
--- a ghost, or none where its pages are free at once
+-- the ghost that a moved buffer leaves, or none where its pages are free at once
 abbrev pub left_by_move : ℕ → Buffer → JobId → Left → Option Ghost
 left_by_move contexts x job left.Now = None
 left_by_move contexts x job (left.Ghost g) = Some (ghost_of contexts x job g)

@@ -7,7 +7,7 @@ use Rattle.journal_model.specs.rules.State.{target_spans}
 use Rattle.journal_model.specs.rules.Places.{pages_of}
 use Rattle.room_representation.specs.lemma_room_bytes.Mapped.{mapped_to}
 
--- the pages of a target in TT are mapped to the buffer's frames
+-- the aperture, where the pages of a target in TT are mapped to the buffer's frames
 abbrev pub mapped_in : Mem → List (Option ℕ) → Buffer → List (Option ℕ)
 mapped_in Tt aper x = mapped_to aper (pages_of (target_spans Tt x)) x.table
 mapped_in Vram aper x = aper

@@ -14,7 +14,7 @@ use room_representation::Ghost;
 use std::alloc::Global;
 use ttm_base::{JobId, Mem, NoMemory, Spans, Usage};
 
-/// The pages that a buffer has in a memory type, copied.
+/// Returns a copy of the spans that the buffer `bo` has in the memory type `mem`.
 fn spans_in(alloc: Global, bo: &Bo, mem: Mem) -> Result<Spans, NoMemory>
     ensures { IfOk result (λ spans. spans ≡ holds.spans_in mem (as_buffer bo.now)) }
 {
@@ -25,7 +25,7 @@ fn spans_in(alloc: Global, bo: &Bo, mem: Mem) -> Result<Spans, NoMemory>
     }
 }
 
-/// The frames that a buffer leaves when it moves: its own, where it stands in TT.
+/// Returns the frames that the buffer `bo` leaves when it moves: its own, where it stands in TT.
 fn frames_left(alloc: Global, bo: &Bo) -> Result<Frames, NoMemory>
     ensures { IfOk result (λ frames. frames ≡ words.frames_left bo.now.mem (as_buffer bo.now)) }
 {
@@ -35,7 +35,7 @@ fn frames_left(alloc: Global, bo: &Bo) -> Result<Frames, NoMemory>
     }
 }
 
-/// A set of one job.
+/// Returns a set with `job` as its only job.
 fn only_job(alloc: Global, contexts: u32, job: JobId) -> Result<FenceSet, NoMemory>
     requires known { job.ctx < contexts }
     requires num { 0 < job.num }
@@ -46,7 +46,7 @@ fn only_job(alloc: Global, contexts: u32, job: JobId) -> Result<FenceSet, NoMemo
     Ok(jobs)
 }
 
-/// What a moved buffer leaves: a ghost that waits for the move, unless its pages are free at once.
+/// Returns what the moved buffer `bo` leaves: a ghost that waits for `job`, the move, or None where its pages are free at once.
 pub(crate) fn ghost_left(
     alloc: Global,
     contexts: u32,

@@ -10,7 +10,7 @@ use resource_core::{Manager, VramRoom};
 use room_pages::room_binds::{give_back, pass_on};
 use ttm_base::{BufId, JobId, Mem, Owner};
 
-/// The spans of a buffer are free, or a ghost's.
+/// Frees the spans of buffer `b`, or passes them to its ghost, as `left` tells.
 fn leave<M: Manager>(room: &mut M, b: BufId, left: Left)
     requires { CanLeave left (M.resources room.old) }
     ensures held { M.resources room.new ≡ left_by b left (M.resources room.old) }
@@ -22,7 +22,7 @@ fn leave<M: Manager>(room: &mut M, b: BufId, left: Left)
     }
 }
 
-/// The target of a buffer in a memory type is its place, if this manager is that memory type's.
+/// Makes the target of buffer `b` in `mem` its place, if this manager is that of `mem`.
 fn arrive<M: Manager>(room: &mut M, mine: Mem, mem: Mem, b: BufId)
     requires { holds (owner.Live b) (M.resources room.old).held ≡ false }
     ensures held { M.resources room.new ≡ arrived mine mem b (M.resources room.old) }
@@ -33,7 +33,7 @@ fn arrive<M: Manager>(room: &mut M, mine: Mem, mem: Mem, b: BufId)
     }
 }
 
-/// A buffer moves to its target in a memory type: what the manager of a memory type keeps of both places.
+/// Moves buffer `b` to its target in `mem` in the manager of the memory type `mine`, which keeps its part of both places.
 pub(crate) fn carry_spans<M: Manager>(room: &mut M, mine: Mem, mem: Mem, b: BufId, left: Left)
     requires { CanCarry b left (M.resources room.old) }
     ensures held { M.resources room.new ≡ carried mine mem b left (M.resources room.old) }
@@ -43,7 +43,7 @@ pub(crate) fn carry_spans<M: Manager>(room: &mut M, mine: Mem, mem: Mem, b: BufI
     arrive(room, mine, mem, b);
 }
 
-/// Where pages of VRAM are free at once, the move's job becomes the move fence.
+/// Makes `job`, the move's, the move fence where pages of VRAM are free at once.
 pub(crate) fn keep_move_fence(room: &mut VramRoom, job: JobId, left: Left)
     ensures held { room.new.resources ≡ with_fence_left job left room.old.resources }
     ensures rule { spans_of_kind room.new.kind ≡ spans_of_kind room.old.kind }

@@ -11,7 +11,7 @@ use bo_table::Bo;
 use room_pages::room_binds::map_pages;
 use ttm_base::Mem;
 
-/// Maps the pages of a buffer's target, if that is in TT. The pages that it leaves stay mapped for its ghost.
+/// Maps the pages of the target of the buffer `bo`, if that is in TT. The pages that it leaves stay mapped for its ghost.
 pub(crate) fn map_target(aper: &mut Aperture, bo: &Bo, mem: Mem)
     requires { mem ≡ InTt → AreBelow (pages_of (target_spans InTt (as_buffer bo.now))) (length aper.old) }
     ensures { aper.new ≡ mapped_in mem aper.old (as_buffer bo.now) }

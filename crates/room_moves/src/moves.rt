@@ -19,7 +19,7 @@ use ttm_base::{BufId, JobId, Mem, NoMemory, Usage};
 /// The context of the move engine.
 const MOVES: u32 = 0;
 
-/// The last ghost's number.
+/// Returns the number of the last ghost after a move, where `before` was the last.
 fn last_ghost(left: Left, before: u64) -> u64
     ensures { result ≡ last_ghost_left left before }
 {
@@ -29,8 +29,8 @@ fn last_ghost(left: Left, before: u64) -> u64
     }
 }
 
-/// A job of the move engine copies each page of a buffer to its target, and the buffer stands there at once. What it leaves is free after
-/// the move fence, or a ghost's until the job is done.
+/// Moves buffer `b` to its target in `mem`: job `num` of the move engine copies each page, and the buffer stands there at once. What it leaves is
+/// free after the move fence, or a ghost's until the job is done.
 pub fn move_buffer(
     parts: &mut Parts,
     alloc: Global,

@@ -11,7 +11,7 @@ use std::alloc::Global;
 use ttm_base::limits::PAGE_BYTES;
 use ttm_base::{Mem, NoMemory, Packet, PagePlace, Span};
 
-/// How packets name a page of VRAM or TT.
+/// Returns how packets name page `page` of the memory type `mem`, which is VRAM or TT.
 fn name(mem: Mem, page: u32) -> PagePlace
     requires { mem ≢ InSystem }
     ensures { result ≡ named mem page }
@@ -23,7 +23,7 @@ fn name(mem: Mem, page: u32) -> PagePlace
     }
 }
 
-/// How packets name the next page of a walk.
+/// Takes the next page of the walk `pages` and returns how packets name it.
 fn next_name(mem: Mem, pages: &mut PageCursor) -> PagePlace
     requires { mem ≢ InSystem }
     ensures name { result ≡ named mem (unwrap_or (slice_get pages.old 0) 0) }
@@ -33,7 +33,7 @@ fn next_name(mem: Mem, pages: &mut PageCursor) -> PagePlace
     name(mem, page)
 }
 
-/// Copies a page.
+/// Returns the packet that copies one page.
 fn copy_of_page(to: PagePlace, from: PagePlace) -> Packet
     ensures { result ≡ words.copy_of_page to from }
 {
@@ -46,7 +46,7 @@ fn copy_of_page(to: PagePlace, from: PagePlace) -> Packet
     }
 }
 
-/// Copies `pages` pages, one by one. It costs as many steps as there are pages and spans.
+/// Returns the packets that copy `pages` pages, one by one. Costs as many steps as there are pages and spans.
 fn copy_pages(
     alloc: Global,
     pages: usize,
@@ -70,7 +70,7 @@ fn copy_pages(
     Ok(packets)
 }
 
-/// The spans of a buffer's target in a memory type.
+/// Returns the spans of the target of the buffer `bo` in the memory type `mem`: none where it has no target there.
 fn target_spans(bo: &Bo, mem: Mem) -> &[Span]
     ensures { result.now ≡ model.target_spans mem (as_buffer bo.now) }
 {
@@ -85,7 +85,7 @@ fn target_spans(bo: &Bo, mem: Mem) -> &[Span]
     }
 }
 
-/// The packets of a move: each page goes from where it stands to the target's. Moves go between VRAM and TT alone.
+/// Returns the packets of a move to `mem`: each copies a page from where it stands to the target's. Moves go only between VRAM and TT.
 pub(crate) fn move_packets(alloc: Global, bo: &Bo, mem: Mem) -> Result<Vec<Packet>, NoMemory>
     requires to { mem ≢ InSystem }
     requires from { bo.now.mem ≢ InSystem }

@@ -10,7 +10,7 @@ use room_representation::{Ghost, Ghosts};
 use std::alloc::Global;
 use ttm_base::{JobId, NoMemory, Packet, Usage};
 
-/// All jobs that use a buffer: a move waits for each of them.
+/// Returns the set of all jobs that use the buffer `bo`: a move waits for each of them.
 pub(crate) fn waits_of(alloc: Global, contexts: u32, bo: &Bo) -> Result<FenceSet, NoMemory>
     requires { length bo.now.resv.fences ≡ contexts }
     ensures { IfOk result (λ set. set ≡ all_added usage.Read (replicate contexts nothing_kept) bo.now.resv.fences) }
@@ -20,7 +20,7 @@ pub(crate) fn waits_of(alloc: Global, contexts: u32, bo: &Bo) -> Result<FenceSet
     Ok(waits)
 }
 
-/// Puts a ghost, if there is one, after the others.
+/// Appends a ghost, if there is one, to the others.
 fn push_ghost(ghosts: &mut Ghosts, ghost_object: Option<Ghost>) -> Result<(), NoMemory>
     ensures ok { OnOk result (ghosts.new ≡ ghosts.old ++ option_to_list ghost_object) }
     ensures err { OnErr result (ghosts.new ≡ ghosts.old) }
@@ -31,7 +31,7 @@ fn push_ghost(ghosts: &mut Ghosts, ghost_object: Option<Ghost>) -> Result<(), No
     }
 }
 
-/// Puts a job in its ring, and the ghost that waits for it after the others: both, or neither where memory is refused.
+/// Puts `job` in its ring, and appends the ghost that waits for it to the others: does both, or neither where memory is refused.
 pub(crate) fn start_job(
     rings: &mut Rings,
     ghosts: &mut Ghosts,

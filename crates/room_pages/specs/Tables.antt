@@ -5,7 +5,7 @@ use Rattle.ttm_base.specs.declared.Loc.{Loc}
 use Rattle.journal_model.specs.rules.Places.{frame_of}
 use Rattle.room_representation.specs.lemma_room_bytes.GivenBack.{given_back}
 
--- each frame of the table is held when its turn comes, after those before it
+-- each frame of the table is held when it is given back, after those before it
 abbrev pub AreHeldInTurn : List Bool → List Loc → Type 0
 AreHeldInTurn pool places = (i : ℕ) (l : Loc) (f : ℕ) → slice_get places i ≡ Some l → frame_of l ≡ Some f → slice_get (given_back pool (filter_map frame_of (take i places))) f ≡ Some true
 

@@ -19,7 +19,7 @@ pub fn give_frames(pool: &mut PagePool, places: &[Loc])
     }
 }
 
-/// The frame of a page that has one.
+/// Returns the frame of page `page`, which has one.
 pub(crate) fn frame_of_page(places: &[Loc], page: u32) -> u32
     requires { IsSome (frame_in places.now page) }
     ensures { frame_in places.now page ≡ Some result }

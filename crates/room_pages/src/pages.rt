@@ -10,7 +10,7 @@ use journal_model::{Entry, Script};
 use room_representation::Parts;
 use ttm_base::{BufId, Loc};
 
-/// A buffer in VRAM gives its frames back, since its bytes don't stand there.
+/// Gives back the frames of buffer `b`, which stands in VRAM, since its bytes aren't in them.
 pub fn depopulate(
     parts: &mut Parts,
     script: &Script,
@@ -29,7 +29,7 @@ pub fn depopulate(
     parts.bos.drop_frames(b);
 }
 
-/// A page goes from its frame to the lowest free slot, and the frame is free.
+/// Copies page `page` of buffer `b` from its frame to the lowest free slot, and frees the frame.
 pub fn swap_out(
     parts: &mut Parts,
     script: &Script,

@@ -11,7 +11,7 @@ use Rattle.fence_core.specs.declared.timeline.Progress.{Progress}
 use Rattle.fence_core.specs.Timelines.{is_signalled}
 use Rattle.room_representation.specs.Fences.{with_use_in}
 
--- in VRAM a move fence that isn't signalled joins the buffer's jobs
+-- the sets of jobs, where a target in VRAM adds a move fence that isn't signalled to the buffer's
 abbrev pub with_move_fence : Mem → List Progress → Option JobId → List (List Latest) → BufId → List (List Latest)
 with_move_fence Vram line (Some i) sets b = if is_signalled line i then sets else with_use_in i Kernel sets b
 with_move_fence Vram line None sets b = sets

@@ -9,7 +9,7 @@ use room_representation::Parts;
 use room_representation::room_steps::has_made;
 use ttm_base::{BufId, Mem, NoMemory};
 
-/// A buffer is made, in SYSTEM and without a frame.
+/// Makes buffer `b`, in SYSTEM and without a frame, and puts it on its list.
 pub fn make(
     parts: &mut Parts,
     script: &Script,

@@ -10,7 +10,7 @@ use room_representation::Parts;
 use std::alloc::Global;
 use ttm_base::NoMemory;
 
-/// A job is done: it leaves its ring, and the timeline counts it.
+/// Marks job `num` of context `ctx` as done: it leaves its ring, and the timeline counts it.
 pub fn done(parts: &mut Parts, script: &Script, before: &[Entry], entry: &Entry, ctx: u32, num: u64)
     requires held { AreHeld script.now before.now parts.old }
     requires is { entry.now ≡ record { who = actor.Engine ctx; kind = kind.Done num } }
@@ -21,7 +21,7 @@ pub fn done(parts: &mut Parts, script: &Script, before: &[Entry], entry: &Entry,
     parts.line.done(ctx);
 }
 
-/// The head of a context runs its next packet. What a probe shows is in the entry already.
+/// Runs the next packet, `k`, of the head of context `ctx`. What a probe shows is in the entry already.
 pub fn packet(
     parts: &mut Parts,
     alloc: Global,

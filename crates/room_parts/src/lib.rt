@@ -1,5 +1,5 @@
-//! What each kind of entry does to the parts of the device: one function a kind, which keeps the parts telling the state and the bytes that
-//! the journal leads to. Each takes all its memory before it changes what can be seen.
+//! What each kind of entry does to the parts of the device: one function for each kind, after which the parts tell the state and the bytes that the
+//! journal leads to. Each takes all its memory before it changes what can be seen.
 #![tactic(auto)]
 
 mod buffers;

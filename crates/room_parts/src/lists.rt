@@ -8,7 +8,7 @@ use journal_model::{Entry, Script};
 use room_representation::Parts;
 use room_representation::room_steps::has_made;
 
-/// The buffers of a group count as just used.
+/// Moves the buffers of `group` on their lists, so that they count as just used.
 pub fn bulk(
     parts: &mut Parts,
     script: &Script,

@@ -9,7 +9,7 @@ use journal_model::{Entry, Script};
 use room_representation::Parts;
 use ttm_base::{BufId, Loc};
 
-/// A page that was never written gets a frame of zeros: the lowest that is free.
+/// Gives page `page` of buffer `b`, which was never written, a frame of zeros: the lowest free one, `frame`.
 pub fn populate(
     parts: &mut Parts,
     script: &Script,
@@ -30,7 +30,7 @@ pub fn populate(
     parts.bos.set_page(b, page, Loc::Frame(frame));
 }
 
-/// A page comes back from its swap slot into the lowest free frame, and the slot is free.
+/// Brings page `page` of buffer `b` back from its swap slot into the lowest free frame, and frees the slot.
 pub fn swap_in(
     parts: &mut Parts,
     script: &Script,

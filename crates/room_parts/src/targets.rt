@@ -19,7 +19,7 @@ use room_representation::Parts;
 use room_representation::room_steps::end_search;
 use ttm_base::{BufId, JobId, Mem, NoMemory, Owner, Spans, Usage};
 
-/// Gives the target of a buffer back to VRAM, if it is there.
+/// Gives the target of buffer `b` back to VRAM, if it is there.
 fn give_vram(room: &mut VramRoom, b: BufId, mem: Mem)
     ensures held { room.new.resources ≡ untaken InVram mem b room.old.resources }
     ensures rule { spans_of_kind room.new.kind ≡ spans_of_kind room.old.kind }
@@ -30,7 +30,7 @@ fn give_vram(room: &mut VramRoom, b: BufId, mem: Mem)
     }
 }
 
-/// Gives the target of a buffer back to TT, if it is there.
+/// Gives the target of buffer `b` back to TT, if it is there.
 fn give_tt(room: &mut RangeRoom, b: BufId, mem: Mem)
     ensures { room.new ≡ untaken InTt mem b room.old }
 {
@@ -40,7 +40,7 @@ fn give_tt(room: &mut RangeRoom, b: BufId, mem: Mem)
     }
 }
 
-/// A buffer's target is given back, since its search failed further on.
+/// Gives the target of buffer `b` in `mem` back, since its search failed further on.
 pub fn untake(
     parts: &mut Parts,
     script: &Script,
@@ -60,7 +60,7 @@ pub fn untake(
     parts.bos.set_target(b, mem, None);
 }
 
-/// The manager of a memory type holds these spans for the target of a buffer. SYSTEM has none.
+/// Lets the manager of the memory type `mem` hold `spans` for the target of buffer `b`. SYSTEM has no manager.
 fn hold_target(
     vram: &mut VramRoom,
     tt: &mut RangeRoom,
@@ -83,7 +83,7 @@ fn hold_target(
     }
 }
 
-/// A target in VRAM brings the move fence, if it isn't signalled.
+/// Adds the move fence to the fences of buffer `b`, where its target is in VRAM and the fence isn't signalled.
 fn add_move_fence(bos: &mut BoTable, b: BufId, mem: Mem, line: &Timeline, fence: Option<JobId>)
     requires { (i : Id) → fence ≡ Some i → CanJoin line.now bos.old.fences b i }
     ensures { bos.new ≡ record bos.old { fences = with_move_fence mem line.now fence bos.old.fences b } }
@@ -97,7 +97,7 @@ fn add_move_fence(bos: &mut BoTable, b: BufId, mem: Mem, line: &Timeline, fence:
     }
 }
 
-/// Pages are found for a buffer, as its target in a memory type.
+/// Takes the pages `spans`, which were found for buffer `b`, as its target in the memory type `mem`.
 pub fn take(
     parts: &mut Parts,
     script: &Script,

@@ -12,7 +12,7 @@ use room_representation::room_steps::{
 use std::alloc::Global;
 use ttm_base::{BufId, Deny, NoMemory, Stamp};
 
-/// A thread's command draws a ticket.
+/// Draws a ticket for the command of `thread`.
 pub fn ticket(
     parts: &mut Parts,
     script: &Script,
@@ -30,7 +30,7 @@ pub fn ticket(
     give_ticket(&mut parts.courses, thread, drawn);
 }
 
-/// The thread's ticket holds a buffer.
+/// Reserves buffer `b` for the ticket of `thread`.
 pub fn reserve(
     parts: &mut Parts,
     script: &Script,
@@ -51,7 +51,7 @@ pub fn reserve(
     Ok(())
 }
 
-/// A thread lets all that it holds go, since the holder of a buffer that it wants is older. Its ticket stays.
+/// Releases all that `thread` holds, since the holder of buffer `b`, which it wants, is older. Its ticket stays.
 pub fn back_off(
     parts: &mut Parts,
     script: &Script,
@@ -71,7 +71,7 @@ pub fn back_off(
     begin_anew(&mut parts.courses, thread, b);
 }
 
-/// A thread's command is refused: it lets go of its buffers, which keep their places in the lists.
+/// Refuses the command of `thread`: it releases its buffers, which keep their places in the lists.
 pub fn refuse(
     parts: &mut Parts,
     alloc: Global,

@@ -19,7 +19,7 @@ use state_words::is_caught;
 use std::alloc::Global;
 use ttm_base::{BufId, Deny, NoMemory};
 
-/// A thread catches a buffer. Out of TT the buffer goes to SYSTEM.
+/// Reserves buffer `b` as a victim of `thread`. A victim in TT gets an empty target in SYSTEM.
 pub fn catch(
     parts: &mut Parts,
     alloc: Global,
@@ -43,7 +43,7 @@ pub fn catch(
     Ok(())
 }
 
-/// A thread lets a victim go, which counts as just used.
+/// Releases the victim `b` of `thread`, which counts as just used.
 pub fn loose(
     parts: &mut Parts,
     script: &Script,
@@ -63,7 +63,7 @@ pub fn loose(
     touch(&mut parts.lru, b);
 }
 
-/// A thread lets a victim go that found no room, and passes over it from now on.
+/// Releases the victim `b` of `thread`, for which there was no room; the thread passes over it from now on.
 pub fn skip(
     parts: &mut Parts,
     script: &Script,
@@ -83,7 +83,7 @@ pub fn skip(
     Ok(())
 }
 
-/// A thread finds no frame for a buffer: its search has failed.
+/// Notes that `thread` finds no frame for buffer `b`: its search has failed.
 pub fn no_pages(
     parts: &mut Parts,
     script: &Script,
@@ -100,7 +100,7 @@ pub fn no_pages(
     fail_search(&mut parts.courses, thread, b, Deny::NoPages);
 }
 
-/// How many places the search for a named buffer tries under pressure: TT alone where something waits for it.
+/// Returns how many places the search for the named buffer `b` tries under pressure: TT alone where the buffer has a target.
 fn place_count(script: &Script, command: &Command, b: BufId, targets: &Targets) -> usize
     requires declared { b.0 < length script.now.buffers }
     requires short { length (decl script.now b).placement.list < 2 ^ 32 }
@@ -115,7 +115,8 @@ fn place_count(script: &Script, command: &Command, b: BufId, targets: &Targets) 
     }
 }
 
-/// The search for a victim has failed; that for a named buffer goes on after place `k` of `places`, or has failed with the last.
+/// Notes that a place is dry: the search for a victim has failed; that for a named buffer goes on after place `k` of `places`, or has failed with
+/// the last.
 fn note_dry(courses: &mut Courses, thread: u32, b: BufId, k: u32, places: usize)
     requires there { IsSome (course_at courses.old thread) }
     requires room { k + 1 < 2 ^ 32 }
@@ -129,7 +130,7 @@ fn note_dry(courses: &mut Courses, thread: u32, b: BufId, k: u32, places: usize)
     }
 }
 
-/// A place of a search under pressure is dry: nothing in it is free, and nothing can be evicted.
+/// Notes that place `k` of a search under pressure is dry: nothing in it is free, and nothing can be evicted.
 pub fn dry(
     parts: &mut Parts,
     script: &Script,

@@ -10,22 +10,22 @@ use Rattle.room_representation.specs.declared.parts.Parts.{Parts}
 use Rattle.room_queries.specs.declared.bytes.Standing.{Standing}
 use Rattle.room_queries.specs.declared.bytes.Standing.TheVariants.{Nowhere, Vram, Frame, Slot}
 
--- the page
+-- the page as the definitions name it
 abbrev pub page_of : Standing → Page
 page_of Nowhere = nowhere
 page_of (Vram p) = vram p
 page_of (Frame f) = frame f
 page_of (Slot k) = slot k
 
--- a lent buffer without its fences, as it stands
+-- the buffer that the table lends, without its fences
 abbrev pub standing : Bo → Buffer
 standing bo = record { mem = bo.mem; spans = bo.spans; table = bo.table; targets = bo.targets; fences = [] }
 
--- where its page stands
+-- where page `i` of the buffer stands
 abbrev pub page_of_bo : Bo → ℕ → Page
 page_of_bo bo i = page_at (standing bo) i
 
--- len zeros
+-- `len` zeros
 abbrev pub zeros : ℕ → List ℕ
 zeros len = replicate len 0
 
@@ -36,7 +36,7 @@ byte_in p (vram n) off = byte_at p.stores.vram n off
 byte_in p (frame f) off = byte_at p.stores.frames f off
 byte_in p (slot k) off = byte_at p.swap.bytes k off
 
--- bytes of a page from an offset on
+-- `len` bytes of a page from `off` on
 abbrev pub bytes_in : Parts → Page → ℕ → ℕ → List ℕ
 bytes_in p page off len = map (byte_in p page) (count_from 1 len off)
 

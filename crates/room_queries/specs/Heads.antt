@@ -12,15 +12,15 @@ abbrev pub number_left : Option Job → Option ℕ
 number_left None = None
 number_left (Some j) = if nat_lt j.ran (length j.packets) then Some j.ran else None
 
--- the bytes that packet k of a context's job shows
+-- the bytes that packet `k` of job `num` of a context shows
 abbrev pub piece_of : World → ℕ → ℕ → ℕ → List ℕ
 piece_of w ctx num k = probe_piece (aperture w.state.core) w.stores (job_packet w.state.core (record { ctx = ctx; num = num }) k)
 
--- those of the head's next packet
+-- the bytes that the next packet of a job shows
 abbrev pub piece_left : World → ℕ → Option Job → List ℕ
 piece_left w ctx None = []
 piece_left w ctx (Some j) = piece_of w ctx j.id.num j.ran
 
--- of the job at the head of a context
+-- the bytes that the next packet of the job at the head of a context shows
 abbrev pub head_piece : World → ℕ → List ℕ
 head_piece w ctx = piece_left w ctx (head_of w.state ctx)

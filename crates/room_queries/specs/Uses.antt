@@ -6,7 +6,7 @@ use Rattle.ttm_base.specs.declared.Usage.TheVariants.{Kernel, Write, Read}
 use Rattle.journal_model.specs.declared.state.Buffer.{Buffer}
 use Rattle.journal_model.specs.rules.Waits.{jobs_before_read, jobs_before_write}
 
--- the usage that covers, with the lower ones, the jobs to be waited for
+-- the usage that covers, with the lower ones, the jobs to wait for
 abbrev pub covering : Usage → Usage
 covering Read = Write
 covering Write = Read

@@ -19,10 +19,10 @@ use state_words::page_at;
 use swap_store::SwapStore;
 use ttm_base::{BufId, Loc, Mem};
 
-/// How many bytes a page has.
+/// The size of a page in bytes.
 const PAGE_LEN: u32 = 4096;
 
-/// Where a page of a buffer has its bytes. A page that is nowhere is zeros.
+/// The place of the bytes of a buffer's page. A page that is nowhere is zeros.
 enum Standing {
     Nowhere,
     Vram(u32),
@@ -30,7 +30,7 @@ enum Standing {
     Slot(u32),
 }
 
-/// Where a page of a live buffer stands: by its spans in VRAM, else by its table.
+/// Returns where page `page` of the live buffer `bo` stands: by its spans in VRAM, else by its table.
 fn standing_of(bo: &Bo, page: u32) -> Standing
     ensures { seen.page_of result ≡ seen.page_of_bo bo.now page }
 {
@@ -47,7 +47,7 @@ fn standing_of(bo: &Bo, page: u32) -> Standing
     }
 }
 
-/// Adds `len` zeros.
+/// Appends `len` zeros to `out`.
 #[tactic(auto, using(crate::proofs::Read::zeros_more))]
 fn push_zeros(out: &mut ProbeBytes, len: u32)
     requires { length out.old + len ≤ 256 }
@@ -58,7 +58,7 @@ fn push_zeros(out: &mut ProbeBytes, len: u32)
     }
 }
 
-/// Adds `len` bytes of one page of a store, from `off` on.
+/// Appends `len` bytes of page `page` of a store to `out`, from `off` on.
 fn push_stored(out: &mut ProbeBytes, store: &ByteStore, page: u32, off: u32, len: u32)
     requires page { HasPage store.now page }
     requires fits { off + len ≤ 4096 }
@@ -69,7 +69,7 @@ fn push_stored(out: &mut ProbeBytes, store: &ByteStore, page: u32, off: u32, len
     out.extend(bytes)
 }
 
-/// Adds `len` bytes of one slot, from `off` on.
+/// Appends `len` bytes of a slot to `out`, from `off` on.
 fn push_slot(out: &mut ProbeBytes, swap: &SwapStore, slot: u32, off: u32, len: u32)
     requires slot { slot < length swap.now.held }
     requires fits { off + len ≤ 4096 }
@@ -82,7 +82,7 @@ fn push_slot(out: &mut ProbeBytes, swap: &SwapStore, slot: u32, off: u32, len: u
     out.extend(&page[start..end])
 }
 
-/// Adds `len` bytes of one page of a buffer, from `off` on, of the store where the page stands.
+/// Appends `len` bytes of page `page` of the buffer `bo` to `out`, from `off` on, out of the store where the page stands.
 fn push_part(out: &mut ProbeBytes, parts: &Parts, bo: &Bo, page: u32, off: u32, len: u32)
     requires there { HasPart parts.now (seen.page_of_bo bo.now page) }
     requires fits { off + len ≤ 4096 }
@@ -97,8 +97,8 @@ fn push_part(out: &mut ProbeBytes, parts: &Parts, bo: &Bo, page: u32, off: u32, 
     }
 }
 
-/// Shows `len` bytes of a live buffer from `off` on, at most 256: those that the stores and slots have at its places. They lie on two pages at
-/// most. Takes no memory, and time by the bytes and by the buffer's spans.
+/// Writes `len` bytes of the live buffer `b` from `off` on to `out`, at most 256: those that the stores and slots have at its places. They lie on
+/// two pages at most. Takes no memory, and time by the bytes and by the buffer's spans.
 pub fn shown(
     parts: &Parts,
     script: &Script,
@@ -122,7 +122,8 @@ pub fn shown(
     push_part(out, parts, bo, page + 1, 0, len - first)
 }
 
-/// The bytes that the head's next packet shows: none of one that isn't a probe. None where no packet is left, or no job. Takes time by the bytes.
+/// Writes the bytes that the next packet of the head of context `ctx` shows to `out`: none if the packet isn't a probe, or where no packet or no job
+/// is left. Takes time by the bytes.
 pub fn probe(parts: &Parts, script: &Script, before: &[Entry], ctx: u32, out: &mut ProbeBytes)
     requires held { AreHeld script.now before.now parts.now }
     requires known { ctx ≤ script.now.sizes.engines }

@@ -13,7 +13,7 @@ use state_words::{declared_align, declared_pages};
 use std::alloc::Global;
 use ttm_base::{BufId, Mem, NoMemory, Place, Spans};
 
-/// What VRAM has for `pages` pages, with an alignment, at a place.
+/// Returns the spans that VRAM has for `pages` pages aligned to `align` at `place`, or None where it has no room.
 fn choose_vram(
     room: &mut VramRoom,
     alloc: Global,
@@ -35,7 +35,7 @@ fn choose_vram(
     }
 }
 
-/// What TT has for `pages` pages, with an alignment, at a place.
+/// Returns the spans that TT has for `pages` pages aligned to `align` at `place`, or None where it has no room.
 fn choose_tt(
     room: &mut RangeRoom,
     alloc: Global,
@@ -56,7 +56,8 @@ fn choose_tt(
     }
 }
 
-/// The pages that a place has for a declared buffer, if it has some: none are needed in SYSTEM. Costs what the manager's choice costs.
+/// Returns the pages that `place` has for the declared buffer `b`, or None where it has none; in SYSTEM no pages are needed. Costs what the
+/// manager's choice costs.
 ///
 /// # Errors
 ///

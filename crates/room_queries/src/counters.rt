@@ -8,7 +8,7 @@ use journal_model::{Entry, Script};
 use room_representation::Parts;
 use ttm_base::Stamp;
 
-/// The lowest free frame.
+/// Returns the lowest free frame, or None where all are held.
 pub fn free_frame(parts: &Parts, script: &Script, before: &[Entry]) -> Option<u32>
     requires { AreHeld script.now before.now parts.now }
     ensures { result ≡ holds.free_frame script.now (state_of script.now before.now).core }
@@ -16,7 +16,7 @@ pub fn free_frame(parts: &Parts, script: &Script, before: &[Entry]) -> Option<u3
     parts.pool.first()
 }
 
-/// The lowest free slot.
+/// Returns the lowest free slot, or None where all are held.
 pub fn free_slot(parts: &Parts, script: &Script, before: &[Entry]) -> Option<u32>
     requires { AreHeld script.now before.now parts.now }
     ensures { result ≡ holds.free_slot script.now (state_of script.now before.now).core }
@@ -24,7 +24,7 @@ pub fn free_slot(parts: &Parts, script: &Script, before: &[Entry]) -> Option<u32
     parts.swap.first()
 }
 
-/// The stamp of the next ticket. Takes constant time.
+/// Returns the stamp of the next ticket. Takes constant time.
 pub fn next_stamp(parts: &Parts, script: &Script, before: &[Entry]) -> Stamp
     requires { AreHeld script.now before.now parts.now }
     ensures { result.0 ≡ (state_of script.now before.now).last_stamp + 1 }
@@ -32,7 +32,7 @@ pub fn next_stamp(parts: &Parts, script: &Script, before: &[Entry]) -> Stamp
     parts.tickets.next()
 }
 
-/// The number of a context's next job. Takes constant time.
+/// Returns the number of the next job of context `ctx`. Takes constant time.
 pub fn next_job(parts: &Parts, script: &Script, before: &[Entry], ctx: u32) -> u64
     requires held { AreHeld script.now before.now parts.now }
     requires known { ctx ≤ script.now.sizes.engines }
@@ -41,7 +41,7 @@ pub fn next_job(parts: &Parts, script: &Script, before: &[Entry], ctx: u32) -> u
     parts.line.next(ctx)
 }
 
-/// The number of the next ghost. Takes constant time.
+/// Returns the number of the next ghost. Takes constant time.
 pub fn next_ghost(parts: &Parts, script: &Script, before: &[Entry]) -> u64
     requires { AreHeld script.now before.now parts.now }
     ensures { result ≡ steps.next_ghost (state_of script.now before.now) }

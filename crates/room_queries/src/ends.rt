@@ -8,7 +8,7 @@ use copy_engine::Rings;
 use journal_model::{Courses, Entry, Script};
 use room_representation::Parts;
 
-/// A thread, by its place among the threads, has answered all its commands.
+/// Returns whether the thread at place `at` among the threads has answered all its commands.
 fn has_answered(courses: &Courses, script: &Script, at: usize) -> bool
     ensures { result ≡ answered_in script.now courses.now (at + 1) }
 {
@@ -23,7 +23,7 @@ fn has_answered(courses: &Courses, script: &Script, at: usize) -> bool
     answered as usize == commands
 }
 
-/// Each thread has answered all its commands.
+/// Returns whether each thread has answered all its commands.
 fn have_answered(courses: &Courses, script: &Script) -> bool
     ensures { result ≡ list_all (answered_in script.now courses.now) (thread_numbers script.now) }
 {
@@ -35,7 +35,7 @@ fn have_answered(courses: &Courses, script: &Script) -> bool
     true
 }
 
-/// No ring has a job.
+/// Returns whether no ring has a job.
 fn are_idle(rings: &Rings) -> bool
     ensures { result ≡ list_all is_empty rings.now }
 {
@@ -47,14 +47,14 @@ fn are_idle(rings: &Rings) -> bool
     true
 }
 
-/// All three hold.
+/// Returns whether all three hold.
 fn are_all(a: bool, b: bool, c: bool) -> bool
     ensures { result ≡ (a && b && c) }
 {
     a && b && c
 }
 
-/// Every command is answered, every job is done and there is no ghost. Takes time by threads and contexts.
+/// Returns whether every command is answered, every job is done and there is no ghost. Takes time by threads and contexts.
 pub fn is_over(parts: &Parts, script: &Script, before: &[Entry]) -> bool
     requires { AreHeld script.now before.now parts.now }
     ensures { result ≡ is_complete script.now before.now }

@@ -8,7 +8,7 @@ use journal_model::{Entry, Script};
 use room_representation::Parts;
 use ttm_base::JobId;
 
-/// The job at the head of a context. Takes constant time.
+/// Returns the job at the head of context `ctx`, or None where it has none. Takes constant time.
 pub fn head(parts: &Parts, script: &Script, before: &[Entry], ctx: u32) -> Option<JobId>
     requires held { AreHeld script.now before.now parts.now }
     requires known { ctx ≤ script.now.sizes.engines }
@@ -17,7 +17,7 @@ pub fn head(parts: &Parts, script: &Script, before: &[Entry], ctx: u32) -> Optio
     parts.rings.head(ctx)
 }
 
-/// The number of the head's next packet; none where no packet is left, or no job. Takes constant time.
+/// Returns the number of the next packet of the head of context `ctx`, or None where no packet or no job is left. Takes constant time.
 pub fn head_packet(parts: &Parts, script: &Script, before: &[Entry], ctx: u32) -> Option<u32>
     requires held { AreHeld script.now before.now parts.now }
     requires known { ctx ≤ script.now.sizes.engines }

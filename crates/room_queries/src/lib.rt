@@ -1,4 +1,4 @@
-//! What errands and the device ask of the parts of a memory manager. Each call answers in the words of the definitions, where the parts tell the
+//! What the device and its turns ask of the parts of a memory manager. Each call answers in the terms of the definitions, where the parts tell the
 //! state and the bytes that a legal journal leads to (`AreHeld`), and leaves them so.
 #![tactic(auto)]
 

@@ -11,8 +11,8 @@ use journal_model::{Entry, Script};
 use room_representation::Parts;
 use ttm_base::{BufId, JobId, Usage};
 
-/// The jobs to be waited for before a use, by the usage that covers them: all before a write or a move, those that change the buffer before a read
-/// (dma_resv_usage_rw).
+/// Returns the usage that covers the jobs to wait for before a use as `usage` tells: all of them before a write or a move, those that change the
+/// buffer before a read (dma_resv_usage_rw).
 fn covering(usage: Usage) -> Usage
     ensures { result ≡ words.covering usage }
 {
@@ -22,7 +22,8 @@ fn covering(usage: Usage) -> Usage
     }
 }
 
-/// The job to wait for before a declared buffer, live or dead, is used so. Takes time by contexts.
+/// Returns the job to wait for before the declared buffer `b`, live or dead, is used as `usage` tells, or None where there is none. Takes time by
+/// contexts.
 pub fn need(
     parts: &Parts,
     script: &Script,
@@ -37,7 +38,7 @@ pub fn need(
     parts.bos.get(b).resv.need(covering(usage), &parts.line)
 }
 
-/// The job that a ghost waits for, by its place in the order of making. Takes time by contexts.
+/// Returns the job that a ghost waits for, by its place `at` in the order of making, or None where there is none. Takes time by contexts.
 pub fn ghost_need(parts: &Parts, script: &Script, before: &[Entry], at: usize) -> Option<JobId>
     requires { AreHeld script.now before.now parts.now }
     ensures { result ≡ option_and_then (λ g. waited_for (state_of script.now before.now).core g.jobs) (slice_get (state_of script.now before.now).core.ghosts at) }
@@ -49,7 +50,7 @@ pub fn ghost_need(parts: &Parts, script: &Script, before: &[Entry], at: usize) -
     }
 }
 
-/// The number of the first ghost, which is reaped next. Takes constant time.
+/// Returns the number of the first ghost, which is reaped next, or None where there is no ghost. Takes constant time.
 pub fn first_ghost(parts: &Parts, script: &Script, before: &[Entry]) -> Option<u64>
     requires { AreHeld script.now before.now parts.now }
     ensures { result ≡ option_map (λ g. g.num) (slice_get (state_of script.now before.now).core.ghosts 0) }
@@ -60,7 +61,7 @@ pub fn first_ghost(parts: &Parts, script: &Script, before: &[Entry]) -> Option<u
     Some(parts.ghosts.get(0).num)
 }
 
-/// The job that the head of a context waits for. Takes time by contexts.
+/// Returns the job that the head of context `ctx` waits for, or None where there is none. Takes time by contexts.
 pub fn head_need(parts: &Parts, script: &Script, before: &[Entry], ctx: u32) -> Option<JobId>
     requires held { AreHeld script.now before.now parts.now }
     requires known { ctx ≤ script.now.sizes.engines }

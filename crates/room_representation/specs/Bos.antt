@@ -6,7 +6,7 @@ use Rattle.journal_model.specs.declared.state.Buffer.{Buffer}
 use Rattle.journal_model.specs.declared.state.Reservation.{Reservation}
 use Rattle.room_representation.specs.Fences.{AreFences}
 
--- a buffer whose fences stand apart
+-- the buffer without its fences, which stand apart
 abbrev pub unfenced : Buffer → Buffer
 unfenced x = record x { fences = [] }
 

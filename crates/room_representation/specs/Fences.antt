@@ -28,7 +28,7 @@ jobs_in fences = map (λ f. f.job) fences
 abbrev pub is_unfinished_in : List Job → JobId → Bool
 is_unfinished_in jobs i = list_any (λ j. same_job i j.id && not j.finished) jobs
 
--- those of them that aren't done
+-- those of the jobs that aren't done
 abbrev pub unfinished_in : List Job → List JobId → List JobId
 unfinished_in jobs is = filter (is_unfinished_in jobs) is
 
@@ -36,7 +36,7 @@ unfinished_in jobs is = filter (is_unfinished_in jobs) is
 abbrev pub is_emitted : List ℕ → JobId → Bool
 is_emitted last i = nat_lt 0 i.num && nat_le i.num (last_number last i.ctx) && nat_lt i.ctx (length last)
 
--- each of them was
+-- each of the jobs was emitted
 abbrev pub are_emitted : List ℕ → List JobId → Bool
 are_emitted last is = list_all (is_emitted last) is
 
@@ -59,10 +59,10 @@ pub record AreFences (last : List ℕ) (buffers : List (Option Buffer)) (sets : 
 abbrev pub set_at : List (List Latest) → BufId → List Latest
 set_at sets b = unwrap_or (slice_get sets b.0) []
 
--- a buffer whose set is empty again
+-- the sets, where that of buffer `b` is empty again
 abbrev pub without_jobs_in : List (List Latest) → BufId → List (List Latest)
 without_jobs_in sets b = slice_set sets b.0 (replicate (length (set_at sets b)) nothing_kept)
 
--- one more job in the set of a buffer
+-- the sets, with one more job in that of buffer `b`
 abbrev pub with_use_in : JobId → Usage → List (List Latest) → BufId → List (List Latest)
 with_use_in job how sets b = slice_set sets b.0 (added (set_at sets b) job how)

@@ -14,7 +14,7 @@ use Rattle.room_representation.specs.Ghosts.{AreGhosts}
 use Rattle.room_representation.specs.Managers.{IsVram, IsTt}
 use Rattle.room_representation.specs.Pages.{ArePooled, AreSlots, AreStores, HasNoMore}
 
--- one relation a part; each takes what it needs of the state
+-- one relation for each part; each takes what it needs of the state
 pub record Represents (script : Script) (s : State) (bytes : PageBytes) (p : Parts) : Type 0 where
   pub bos : AreBos script s.core.buffers s.reservations s.last_jobs p.bos
   pub line : IsTimeline s.core.jobs s.last_jobs p.line

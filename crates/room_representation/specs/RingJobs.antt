@@ -5,14 +5,14 @@ use Rattle.journal_model.specs.declared.state.Job.{Job}
 use Rattle.laws.specs.law_jobs.JobLines.{unfinished_of}
 use Rattle.room_representation.specs.Fences.{WaitsFor}
 
--- a job of the state in a ring
+-- the job `p` of a ring is the job `j` of the state
 pub record IsPushed (jobs : List Job) (last : List ℕ) (j : Job) (p : Pushed) : Type 0 where
   pub job : p.job ≡ j.id
   pub packets : p.packets ≡ j.packets
   pub ran : p.ran ≡ j.ran
   pub waits : WaitsFor jobs last j.waits p.waits
 
--- one by one
+-- the jobs of a ring are those of the list, one by one in their order
 abbrev pub IsRing : List Job → List ℕ → List Job → List Pushed → Type 0
 IsRing jobs last [] [] = Unit {0}
 IsRing jobs last [] (p ∷ ps) = ⊥

@@ -1,1 +1,1 @@
-//! The words of the LRU's contracts are those of the definitions, on lists that both tell alike.
+//! Lemmas on lists: the terms of the LRU's contracts are those of the definitions, on lists that both tell alike.

@@ -1,1 +1,1 @@
-//! Lemmas for who holds which pages of VRAM and TT: what the calls of a manager do to its holdings is what an entry does to the state's.
+//! Lemmas on the holders of pages of VRAM and TT: what the calls of a manager do to its holdings is what an entry does to the state's.

@@ -1,4 +1,4 @@
-//! The parts of a memory manager, and how each of them tells the state and the bytes that a journal leads to: one relation a part.
+//! The parts of a memory manager, and how each of them tells the state and the bytes that a journal leads to: one relation for each part.
 #![tactic(auto)]
 
 pub mod lemma_room_bytes;

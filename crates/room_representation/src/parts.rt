@@ -11,47 +11,47 @@ use swap_store::SwapStore;
 use ttm_base::Spans;
 use ww_ticket::Tickets;
 
-/// What a moved or freed buffer left behind until its jobs are done (the ghost object of ttm_bo_move_accel_cleanup).
+/// A ghost: what a moved or freed buffer left behind, until its jobs are done (the ghost object of ttm_bo_move_accel_cleanup).
 #[derive(Drop)]
 pub struct Ghost {
-    /// Its number, one above the last.
+    /// The ghost's number, one above the last.
     pub num: u64,
-    /// Pages of VRAM that it still holds.
+    /// Pages of VRAM that the ghost still holds.
     pub vram: Spans,
-    /// Pages of TT that it still holds; its frames are mapped there.
+    /// Pages of TT that the ghost still holds; its frames are mapped there.
     pub tt: Spans,
-    /// Its frames, page by page.
+    /// The ghost's frames, page by page.
     pub frames: Frames,
-    /// The jobs that it waits for.
+    /// The jobs that the ghost waits for.
     pub jobs: FenceSet,
 }
 
-/// In order of making; the first is reaped next.
+/// Ghosts in order of making; the first is reaped next.
 pub type Ghosts = ItemQueue<Ghost>;
 
-/// All parts of the device: the only copy of what they keep.
+/// All parts of the device: the only copy of the state that they keep.
 pub struct Parts {
-    /// Buffers by declared number, how they are held, and the jobs that use them.
+    /// Buffers by declared number, with their reservations and the jobs that use them.
     pub bos: BoTable,
-    /// How far the jobs of each context are.
+    /// The timeline: how far the jobs of each context are.
     pub line: Timeline,
     /// The jobs that aren't done.
     pub rings: Rings,
-    /// In order of making.
+    /// The ghosts, in order of making.
     pub ghosts: Ghosts,
-    /// Who holds which pages of VRAM, and the move fence.
+    /// The holders of VRAM's pages, and the move fence.
     pub vram: VramRoom,
-    /// Who holds which pages of TT.
+    /// The holders of TT's pages.
     pub tt: RangeRoom,
-    /// Which frames are held.
+    /// The frames that are held.
     pub pool: PagePool,
-    /// Which slots are held, and their bytes.
+    /// The slots that are held, and their bytes.
     pub swap: SwapStore,
     /// The bytes of VRAM and frames, and the aperture.
     pub stores: Stores,
     /// The twelve lists of buffers in eviction order.
     pub lru: Lru,
-    /// Where threads stand.
+    /// The courses of the threads.
     pub courses: Courses,
     /// The stamps that were drawn.
     pub tickets: Tickets,
@@ -59,7 +59,7 @@ pub struct Parts {
     pub last_ghost: u64,
 }
 
-/// By hand, and it only names the fields: a derived drop is proved once more in each crate that lets a value go.
+/// Written by hand, and only names the fields: a derived drop is proved once more in each crate that lets a value go.
 impl Drop for Parts {
     fn drop(self) {
         let Self {

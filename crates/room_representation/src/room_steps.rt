@@ -1,5 +1,5 @@
-//! What the kinds of entries share: how one changes where a thread stands, who holds which buffer, and which was used last; and, in proofs/,
-//! what stays represented where an entry changes a part alone.
+//! What the kinds of entries share: how one changes a thread's course, the reservations of buffers, and the order of their use; and, in proofs/,
+//! what stays represented where an entry changes only one part.
 mod courses;
 mod lists;
 mod reservations;

@@ -11,7 +11,7 @@ use room_representation::Parts;
 use std::alloc::Global;
 use ttm_base::{Actor, NoMemory};
 
-/// Makes the parts those after an entry of an engine.
+/// Applies the `entry` of the engine of context `ctx` to the parts: they then tell the state after it.
 fn make_of_engine(
     parts: &mut Parts,
     alloc: Global,
@@ -39,7 +39,7 @@ fn make_of_engine(
     }
 }
 
-/// Makes the parts those after an entry of the reaper.
+/// Applies the `entry` of the reaper to the parts: they then tell the state after it.
 fn make_of_reaper(parts: &mut Parts, script: &Script, before: &[Entry], entry: &Entry)
     requires held { AreHeld script.now before.now parts.old }
     requires who { entry.now.who ≡ actor.Reaper }
@@ -52,7 +52,7 @@ fn make_of_reaper(parts: &mut Parts, script: &Script, before: &[Entry], entry: &
     }
 }
 
-/// Makes the parts those after an entry.
+/// Applies `entry`, which is legal after the entries `before`, to the parts: they then tell the state after it.
 ///
 /// # Errors
 ///

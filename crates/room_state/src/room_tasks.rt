@@ -1,5 +1,5 @@
-//! What a thread has to do next, told from the parts of a device. Each public call answers in the words of the definitions, where the parts tell
-//! the state that a legal journal leads to (`AreHeld`). None of them takes memory.
+//! What a thread has to do next, read from the parts of a device. Each public call answers in the terms of the definitions, where the parts tell the
+//! state that a legal journal leads to (`AreHeld`). None of them takes memory.
 mod mentions;
 mod queries;
 mod ready;

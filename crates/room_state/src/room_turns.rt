@@ -1,4 +1,4 @@
-//! What an actor's turn makes of the rooms: its next entry, or what it needs first.
+//! The turn of an actor on the rooms: its next entry, or what it needs first.
 mod buffer_searches;
 
 ghost use Rattle.std.specs.Prelude.{◌≡◌, Ok, IfOk, OnOk, OnErr};
@@ -11,16 +11,16 @@ pub use buffer_searches::{
 use journal_model::{Entry, Kind};
 use ttm_base::{Actor, Need, NoMemory};
 
-/// What an errand answers.
+/// The answer to an actor's turn.
 #[derive(Clone, Copy)]
 pub enum Step {
     /// The actor's next entry was made.
     Made,
-    /// The actor has no entry before this has come; nothing is changed.
+    /// What the actor needs first, where it has no entry yet; nothing is changed.
     Need(Need),
 }
 
-/// Makes the entry that is the actor's next.
+/// Makes the entry of `kind`, which is the next one of the actor `who`.
 ///
 /// # Errors
 ///
@@ -35,7 +35,7 @@ pub fn make(rooms: &mut Rooms, who: Actor, kind: Kind) -> Result<Step, NoMemory>
     Ok(Step::Made)
 }
 
-/// Makes the entry of this kind, which is the actor's next; where the actor needs something first, it answers so.
+/// Makes the entry of the kind that `next` has, which is the next one of the actor `who`. Where `next` is a need, returns it, and changes nothing.
 ///
 /// # Errors
 ///

@@ -39,7 +39,7 @@ use std::alloc::Global;
 use std::marker::Model;
 use ttm_base::{BufId, ItemList, JobId, NoMemory, Place, Spans, Stamp, Usage};
 
-/// The whole state on its parts, seen as a script and a journal.
+/// The whole state in its parts, seen as a script and a journal.
 pub struct Rooms {
     alloc: Global,
     script: Script,
@@ -47,7 +47,7 @@ pub struct Rooms {
     parts: Parts,
 }
 
-/// By hand, so that no crate above has to prove how each part goes.
+/// Written by hand, so that no crate above has to prove how each part is dropped.
 impl Drop for Rooms {
     fn drop(self) {
         let Self {
@@ -70,7 +70,7 @@ impl Model for Rooms {
     ghost invariant = { λ r. AreHeld r.script r.journal r.parts };
 }
 
-/// Takes out the last entry.
+/// Removes the last entry, which stands at `at`.
 fn take_back(journal: &mut ItemList<Entry>, at: usize)
     requires { at < length journal.old }
     ensures { journal.new ≡ remove journal.old at }
@@ -79,7 +79,7 @@ fn take_back(journal: &mut ItemList<Entry>, at: usize)
 }
 
 impl Rooms {
-    /// All buffers dead, all pages free, and each thread at its first command.
+    /// Makes the state at the start of `script`: all buffers dead, all pages free, and each thread at its first command.
     ///
     /// # Errors
     ///
@@ -97,7 +97,7 @@ impl Rooms {
         })
     }
 
-    /// The script that is run.
+    /// Returns the script that is run.
     pub fn script(&self) -> &Script
         ensures script { result.now ≡ self.now.script }
         ensures fits { IsTrue (is_script self.now.script) }
@@ -105,7 +105,7 @@ impl Rooms {
         &self.script
     }
 
-    /// The entries so far, which are legal.
+    /// Returns the entries so far, which are legal.
     pub fn journal(&self) -> &[Entry]
         ensures journal { result.now ≡ self.now.journal }
         ensures fits { IsTrue (is_script self.now.script) }
@@ -114,7 +114,7 @@ impl Rooms {
         self.journal.items()
     }
 
-    /// Where a thread stands.
+    /// Returns where `thread` stands.
     pub fn course(&self, thread: u32) -> &Course
         requires { IsSome (course_of (state_behind self.now) thread) }
         ensures { result.now ≡ course (state_behind self.now) thread }
@@ -122,7 +122,7 @@ impl Rooms {
         self.parts.courses.get(thread as usize - 1)
     }
 
-    /// The command that a thread is at, if one is left.
+    /// Returns the command that `thread` is at, or None where none is left.
     pub fn command(&self, thread: u32) -> Option<&Command>
         requires { IsSome (course_of (state_behind self.now) thread) }
         ensures { option_copied result ≡ command_of self.now.script (state_behind self.now) thread }
@@ -131,35 +131,35 @@ impl Rooms {
         commands_of(&self.script, thread).get(answered as usize)
     }
 
-    /// The buffers.
+    /// Returns the table of buffers.
     pub fn bos(&self) -> &BoTable
         ensures { AreBos self.now.script (state_behind self.now).core.buffers (state_behind self.now).reservations (state_behind self.now).last_jobs result.now }
     {
         &self.parts.bos
     }
 
-    /// The lists in eviction order.
+    /// Returns the LRU lists, in eviction order.
     pub fn lru(&self) -> &Lru
         ensures { HasLists self.now.script (state_behind self.now) result.now }
     {
         &self.parts.lru
     }
 
-    /// How far the jobs of each context are.
+    /// Returns the timeline, which tells how far the jobs of each context are.
     pub fn line(&self) -> &Timeline
         ensures { IsTimeline (state_behind self.now).core.jobs (state_behind self.now).last_jobs result.now }
     {
         &self.parts.line
     }
 
-    /// The jobs that aren't done.
+    /// Returns the rings, which keep the jobs that aren't done.
     pub fn rings(&self) -> &Rings
         ensures { AreRings (state_behind self.now).core.jobs (state_behind self.now).last_jobs result.now }
     {
         &self.parts.rings
     }
 
-    /// What moved and freed buffers left behind, in order of making.
+    /// Returns the ghosts that moved and freed buffers left behind, in order of making.
     pub fn ghosts(&self) -> &[Ghost]
         ensures { AreGhosts (state_behind self.now).core.jobs (state_behind self.now).last_jobs (state_behind self.now).core.ghosts result.now }
     {
@@ -174,42 +174,42 @@ impl Rooms {
         &self.parts.stores.aper
     }
 
-    /// All parts.
+    /// Returns all parts.
     pub fn parts(&self) -> &Parts
         ensures { AreHeld self.now.script self.now.journal result.now }
     {
         &self.parts
     }
 
-    /// Every command is answered, every job is done and there is no ghost.
+    /// Returns whether every command is answered, every job is done and there is no ghost.
     pub fn over(&self) -> bool
         ensures { result ≡ is_complete self.now.script self.now.journal }
     {
         room_queries::is_over(&self.parts, &self.script, self.journal.items())
     }
 
-    /// The lowest free frame.
+    /// Returns the lowest free frame, or None where all are held.
     pub fn free_frame(&self) -> Option<u32>
         ensures { result ≡ frame_of self.now.script (state_behind self.now).core }
     {
         room_queries::free_frame(&self.parts, &self.script, self.journal.items())
     }
 
-    /// The lowest free slot.
+    /// Returns the lowest free slot, or None where all are held.
     pub fn free_slot(&self) -> Option<u32>
         ensures { result ≡ slot_of self.now.script (state_behind self.now).core }
     {
         room_queries::free_slot(&self.parts, &self.script, self.journal.items())
     }
 
-    /// The stamp of the next ticket.
+    /// Returns the stamp of the next ticket.
     pub fn next_stamp(&self) -> Stamp
         ensures { result.0 ≡ (state_behind self.now).last_stamp + 1 }
     {
         room_queries::next_stamp(&self.parts, &self.script, self.journal.items())
     }
 
-    /// The number of a context's next job.
+    /// Returns the number of the next job of context `ctx`.
     pub fn next_job(&self, ctx: u32) -> u64
         requires { ctx ≤ self.now.script.sizes.engines }
         ensures { result ≡ job_of (state_behind self.now) ctx }
@@ -217,14 +217,14 @@ impl Rooms {
         room_queries::next_job(&self.parts, &self.script, self.journal.items(), ctx)
     }
 
-    /// The number of the next ghost.
+    /// Returns the number of the next ghost.
     pub fn next_ghost(&self) -> u64
         ensures { result ≡ ghost_of (state_behind self.now) }
     {
         room_queries::next_ghost(&self.parts, &self.script, self.journal.items())
     }
 
-    /// The job to wait for before a declared buffer is used so.
+    /// Returns the job to wait for before the declared buffer `b` is used as `usage` tells, or None where there is none.
     pub fn need(&self, b: BufId, usage: Usage) -> Option<JobId>
         requires { b.0 < length self.now.script.buffers }
         ensures { result ≡ waited_for (state_behind self.now).core (jobs_before usage (buffer (state_behind self.now) b)) }
@@ -232,21 +232,21 @@ impl Rooms {
         room_queries::need(&self.parts, &self.script, self.journal.items(), b, usage)
     }
 
-    /// The number of the first ghost, which is reaped next.
+    /// Returns the number of the first ghost, which is reaped next, or None where there is no ghost.
     pub fn first_ghost(&self) -> Option<u64>
         ensures { result ≡ option_map (λ g. g.num) (slice_get (state_behind self.now).core.ghosts 0) }
     {
         room_queries::first_ghost(&self.parts, &self.script, self.journal.items())
     }
 
-    /// The job that a ghost waits for, by its place in the order of making.
+    /// Returns the job that a ghost waits for, by its place `at` in the order of making.
     pub fn ghost_need(&self, at: usize) -> Option<JobId>
         ensures { result ≡ option_and_then (λ g. waited_for (state_behind self.now).core g.jobs) (slice_get (state_behind self.now).core.ghosts at) }
     {
         room_queries::ghost_need(&self.parts, &self.script, self.journal.items(), at)
     }
 
-    /// The job at the head of a context.
+    /// Returns the job at the head of context `ctx`.
     pub fn head(&self, ctx: u32) -> Option<JobId>
         requires { ctx ≤ self.now.script.sizes.engines }
         ensures { result ≡ option_map (λ j. j.id) (head_of (state_behind self.now) ctx) }
@@ -254,7 +254,7 @@ impl Rooms {
         room_queries::head(&self.parts, &self.script, self.journal.items(), ctx)
     }
 
-    /// The number of the head's next packet, if one is left.
+    /// Returns the number of the next packet of the head of context `ctx`, or None where none is left.
     pub fn head_packet(&self, ctx: u32) -> Option<u32>
         requires { ctx ≤ self.now.script.sizes.engines }
         ensures { result ≡ number_left (head_of (state_behind self.now) ctx) }
@@ -262,7 +262,7 @@ impl Rooms {
         room_queries::head_packet(&self.parts, &self.script, self.journal.items(), ctx)
     }
 
-    /// The job that the head of a context waits for.
+    /// Returns the job that the head of context `ctx` waits for.
     pub fn head_need(&self, ctx: u32) -> Option<JobId>
         requires { ctx ≤ self.now.script.sizes.engines }
         ensures { result ≡ option_and_then (λ j. waited_for (state_behind self.now).core j.waits) (head_of (state_behind self.now) ctx) }
@@ -270,21 +270,21 @@ impl Rooms {
         room_queries::head_need(&self.parts, &self.script, self.journal.items(), ctx)
     }
 
-    /// What a thread has to do next: nothing, where there is no such thread.
+    /// Returns what `thread` has to do next, which is nothing where there is no such thread.
     pub fn task(&self, thread: u32) -> Task
         ensures { result ≡ task_of self.now.script (state_behind self.now) thread }
     {
         crate::room_tasks::task_of(&self.parts, &self.script, self.journal.items(), thread)
     }
 
-    /// The group of rules that gives a thread's next entry.
+    /// Returns the group of rules that gives the next entry of `thread`.
     pub fn stage(&self, thread: u32) -> Stage
         ensures { result ≡ stage_of (task_of self.now.script (state_behind self.now) thread) }
     {
         crate::room_tasks::stage_of(self.task(thread))
     }
 
-    /// The pages that a place has for a declared buffer, if it has some.
+    /// Returns the pages that `place` has for the declared buffer `b`, or None where it has none. Nothing is changed.
     ///
     /// # Errors
     ///
@@ -298,7 +298,8 @@ impl Rooms {
         room_queries::choice(&mut self.parts, self.alloc, &self.script, entries, b, place)
     }
 
-    /// Shows `len` bytes of a live buffer from `off` on, at most 256: those that the stores and slots have at its places. Takes no memory.
+    /// Writes `len` bytes of the live buffer `b` from `off` on to `out`, at most 256: those that the stores and slots have at its places. Takes no
+    /// memory.
     pub fn shown(&self, b: BufId, off: u32, len: u32, out: &mut ProbeBytes)
         requires live { IsThere (state_behind self.now) b }
         requires short { len ≤ 256 }
@@ -308,7 +309,7 @@ impl Rooms {
         room_queries::shown(&self.parts, &self.script, entries, b, off, len, out);
     }
 
-    /// The bytes that the head's next packet shows: none of one that isn't a probe.
+    /// Writes the bytes that the next packet of the head of context `ctx` shows to `out`: none if the packet isn't a probe.
     pub fn probe(&self, ctx: u32, out: &mut ProbeBytes)
         requires { ctx ≤ self.now.script.sizes.engines }
         ensures { out.new ≡ head_piece (world_behind self.now) ctx }
@@ -316,7 +317,7 @@ impl Rooms {
         room_queries::probe(&self.parts, &self.script, self.journal.items(), ctx, out);
     }
 
-    /// Makes an entry that is legal next.
+    /// Adds `entry`, which is legal next, to the journal, and brings the parts to the state after it.
     ///
     /// # Errors
     ///

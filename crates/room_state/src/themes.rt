@@ -3,7 +3,7 @@ ghost use Rattle.room_state.specs.Themes as words;
 
 use journal_model::Kind;
 
-/// What an entry is about.
+/// The subject of an entry.
 #[derive(Clone, Copy)]
 pub(crate) enum Theme {
     /// A thread's ticket, and the named buffers that it holds.
@@ -22,7 +22,7 @@ pub(crate) enum Theme {
     Worker,
 }
 
-/// What an entry of a kind is about.
+/// Returns the subject of an entry of `kind`.
 pub(crate) fn theme_of(kind: &Kind) -> Theme
     ensures { result ≡ words.theme_of kind.now }
 {

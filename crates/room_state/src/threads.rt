@@ -20,7 +20,7 @@ use room_representation::Parts;
 use std::alloc::Global;
 use ttm_base::NoMemory;
 
-/// Makes the parts those after an entry of a thread on its ticket and its holds.
+/// Applies an entry of `thread` on its ticket and its reservations to the parts.
 fn make_lock(
     parts: &mut Parts,
     script: &Script,
@@ -49,7 +49,7 @@ fn make_lock(
     }
 }
 
-/// Makes the parts those after an entry of a thread on pages that it looks for.
+/// Applies an entry of `thread` on pages that it looks for to the parts.
 fn make_search(
     parts: &mut Parts,
     alloc: Global,
@@ -82,7 +82,7 @@ fn make_search(
     }
 }
 
-/// Makes the parts those after an entry of a thread on a buffer that goes to its target.
+/// Applies an entry of `thread` on a buffer that goes to its target to the parts.
 fn make_carry(
     parts: &mut Parts,
     alloc: Global,
@@ -116,7 +116,7 @@ fn make_carry(
     }
 }
 
-/// Makes the parts those after an entry of a thread on frames for a buffer.
+/// Applies an entry of `thread` on frames for a buffer to the parts.
 fn make_fill(parts: &mut Parts, script: &Script, before: &[Entry], entry: &Entry, thread: u32)
     requires held { AreHeld script.now before.now parts.old }
     requires who { entry.now.who ≡ actor.Thread thread }
@@ -143,7 +143,7 @@ fn make_fill(parts: &mut Parts, script: &Script, before: &[Entry], entry: &Entry
     }
 }
 
-/// Makes the parts those after an entry of a thread on frames that are given away, or on a victim that is let go.
+/// Applies an entry of `thread` on frames that are given away, or on a victim that is let go, to the parts.
 fn make_empty(
     parts: &mut Parts,
     script: &Script,
@@ -176,7 +176,7 @@ fn make_empty(
     }
 }
 
-/// Makes the parts those after an entry of a thread that does what its command is for, or answers it.
+/// Applies an entry by which `thread` does what its command is for, or answers it, to the parts.
 fn make_act(
     parts: &mut Parts,
     alloc: Global,
@@ -211,7 +211,7 @@ fn make_act(
     }
 }
 
-/// Makes the parts those after an entry of a thread.
+/// Applies an entry of `thread` to the parts.
 pub(crate) fn make_of_thread(
     parts: &mut Parts,
     alloc: Global,

@@ -16,7 +16,7 @@ use Rattle.journal_model.specs.rules.Commands.{command_at_work}
 use Rattle.journal_model.specs.rules.Apply.{thread_of, engine_of}
 pub use Rattle.journal_model.specs.code.Jobs.{has_packets_left}
 
--- the thread is there
+-- there is a thread of this number
 abbrev pub IsThread : State → ℕ → Type 0
 IsThread s t = IsSome (course_of s t)
 
@@ -43,7 +43,7 @@ CanRun s i = IsTrue (list_all (has_packets_left i) s.core.jobs)
 abbrev pub HasShortTable : State → BufId → Type 0
 HasShortTable s b = length (buffer s b).table < 2 ^ 32
 
--- by kind
+-- what must hold of the state for an entry of each kind
 abbrev pub IsReadyFor : Script → State → Actor → Kind → Type 0
 IsReadyFor script s who (kind.Ticket stamp) = IsThread s (thread_of who)
 IsReadyFor script s who (kind.Reserve b) = IsThread s (thread_of who)
@@ -72,6 +72,6 @@ IsReadyFor script s who (kind.SwapOut b page slot) = Unit {0}
 IsReadyFor script s who (kind.Done n) = Unit {0}
 IsReadyFor script s who (kind.Reap g) = Unit {0}
 
--- the entry can be applied
+-- what must hold of the state for the entry to be applied
 abbrev pub IsReady : Script → State → Entry → Type 0
 IsReady script s e = IsReadyFor script s e.who e.kind

@@ -20,7 +20,7 @@ use rules_state::{
 use std::alloc::Global;
 use ttm_base::{BufId, Mem, NoMemory, Spans};
 
-/// A thread makes a buffer.
+/// Makes buffer `b` for the thread numbered `thread`. Without memory it leaves `state` as it was.
 pub fn make(
     alloc: Global,
     script: &Script,
@@ -42,7 +42,7 @@ pub fn make(
     Ok(())
 }
 
-/// What a buffer with unfinished jobs leaves when it is freed.
+/// Returns the ghost numbered `num` that `buffer`, which has unfinished jobs, leaves when it is freed.
 fn ghost_of_freed(alloc: Global, core: &Core, buffer: &Buffer, num: u64) -> Result<Ghost, NoMemory>
     ensures { IfOk result (λ left. left ≡ rows.ghost_of_freed core.now buffer.now num) }
 {
@@ -59,7 +59,7 @@ fn ghost_of_freed(alloc: Global, core: &Core, buffer: &Buffer, num: u64) -> Resu
     })
 }
 
-/// What a buffer of the core leaves when it is freed.
+/// Returns the ghost numbered `num` that buffer `b` of `core` leaves when it is freed.
 fn ghost_of_buffer(alloc: Global, core: &Core, b: BufId, num: u64) -> Result<Ghost, NoMemory>
     ensures { IfOk result (λ left. left ≡ rows.ghost_of_freed core.now (words.buffer_in core.now b) num) }
 {
@@ -67,7 +67,7 @@ fn ghost_of_buffer(alloc: Global, core: &Core, b: BufId, num: u64) -> Result<Gho
     ghost_of_freed(alloc, core, buffer_in(core, b, &dead), num)
 }
 
-/// Adds the ghost of a freed buffer; the number 0 is that of no ghost.
+/// Adds the ghost of the freed buffer `b`. The number 0 is that of no ghost. Without memory it leaves `core` as it was.
 fn leave_ghost(alloc: Global, core: &mut Core, b: BufId, num: u64) -> Result<(), NoMemory>
     ensures ok { OnOk result (core.new ≡ record core.old { ghosts = (if num == 0 then core.old.ghosts else core.old.ghosts ++ rows.ghost_of_freed core.old (words.buffer_in core.old b) num ∷ []) }) }
     ensures err { OnErr result (core.new ≡ core.old) }
@@ -79,7 +79,8 @@ fn leave_ghost(alloc: Global, core: &mut Core, b: BufId, num: u64) -> Result<(),
     Ok(())
 }
 
-/// A thread frees a buffer, which leaves a ghost of this number where it isn't 0 (ttm_bo_release).
+/// Frees buffer `b` for the thread numbered `thread` (ttm_bo_release). The buffer leaves a ghost numbered `num` if that isn't 0. Without
+/// memory it leaves `state` as it was.
 pub fn free(
     alloc: Global,
     state: &mut State,
@@ -107,7 +108,7 @@ pub fn free(
     Ok(())
 }
 
-/// The buffers of a group go to the end of their lists (ttm_lru_bulk_move_tail).
+/// Puts the buffers of `group` at the end of their lists (ttm_lru_bulk_move_tail). Without memory it leaves `state` as it was.
 pub fn bulk(
     alloc: Global,
     script: &Script,
@@ -125,7 +126,7 @@ pub fn bulk(
     Ok(())
 }
 
-/// The buffers that a command names.
+/// Returns the buffers that `command` names.
 pub fn buffers_of(alloc: Global, command: Option<&Command>) -> Result<BufIds, NoMemory>
     ensures { IfOk result (λ bs. bs ≡ named_in (option_copied command.entry)) }
 {
@@ -135,7 +136,7 @@ pub fn buffers_of(alloc: Global, command: Option<&Command>) -> Result<BufIds, No
     }
 }
 
-/// Those of some buffers that a thread holds.
+/// Returns those of `bs` that are among `held`.
 fn held_among(alloc: Global, held: &[BufId], bs: &[BufId]) -> Result<BufIds, NoMemory>
     ensures { IfOk result (λ found. found ≡ filter (words.has_buffer held.now) bs.now) }
 {
@@ -148,7 +149,7 @@ fn held_among(alloc: Global, held: &[BufId], bs: &[BufId]) -> Result<BufIds, NoM
     Ok(found)
 }
 
-/// The reservations once a command is answered: held buffers are let go, and pins change as it asks.
+/// Returns the reservations once `command` is answered: held buffers are let go, and pins change as it asks.
 fn answered_reservations(
     alloc: Global,
     reservations: &Reservations,
@@ -166,7 +167,7 @@ fn answered_reservations(
     Ok(new)
 }
 
-/// The lists once a command is answered: held buffers are touched, as the command names them.
+/// Returns the lists once `command` is answered: held buffers are touched, in the order in which the command names them.
 fn answered_lists(
     alloc: Global,
     script: &Script,
@@ -183,7 +184,7 @@ fn answered_lists(
     touched_all(alloc, script, buffers, reservations, lists, held.items())
 }
 
-/// A thread answers its command: its buffers are let go and touched.
+/// Answers the command of the thread numbered `thread`: its buffers are let go and touched. Without memory it leaves `state` as it was.
 pub fn answer(
     alloc: Global,
     script: &Script,

@@ -9,7 +9,7 @@ use rules_state::rules_parts::actors::{engine_of, thread_of};
 use std::alloc::Global;
 use ttm_base::NoMemory;
 
-/// The state after an entry that is legal next. Steps of pages and packets take no memory.
+/// Makes `state` the state after `entry`, which is legal next. Steps of pages and packets take no memory.
 ///
 /// # Errors
 ///

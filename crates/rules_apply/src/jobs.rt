@@ -11,7 +11,7 @@ use rules_state::{command_at_work, ops_of};
 use std::alloc::Global;
 use ttm_base::{BufId, JobId, NoMemory, Op};
 
-/// The jobs that a job waits for at its buffers.
+/// Returns the jobs that a job with the operations `ops` waits for at its buffers `bs`.
 fn waits_at(alloc: Global, core: &Core, ops: &[Op], bs: &[BufId]) -> Result<JobIds, NoMemory>
     ensures { IfOk result (λ jobs. jobs ≡ flat_map (waits.jobs_before_use core.now ops.now) bs.now) }
 {
@@ -23,7 +23,8 @@ fn waits_at(alloc: Global, core: &Core, ops: &[Op], bs: &[BufId]) -> Result<JobI
     Ok(jobs)
 }
 
-/// Gives each of these buffers the job as a fence, in the way in which it uses the buffer.
+/// Gives each of the buffers `bs` the job as a fence, in the way in which it uses the buffer. Without memory it leaves `buffers` as they
+/// were.
 #[tactic(auto, using(rules_state::proofs::rules_parts::UndoLaws::fence_undone))]
 fn add_uses(buffers: &mut Buffers, job: JobId, ops: &[Op], bs: &[BufId]) -> Result<(), NoMemory>
     ensures ok { OnOk result (buffers.new ≡ fold (with_use job ops.now) buffers.old bs.now) }
@@ -40,7 +41,7 @@ fn add_uses(buffers: &mut Buffers, job: JobId, ops: &[Op], bs: &[BufId]) -> Resu
     Ok(())
 }
 
-/// Adds a job, and gives its buffers the fences.
+/// Adds `job`, and gives its buffers the fences. Without memory it leaves `core` as it was.
 fn emit(core: &mut Core, job: Job, ops: &[Op], bs: &[BufId]) -> Result<(), NoMemory>
     ensures ok { OnOk result (core.new ≡ record core.old { jobs = core.old.jobs ++ job ∷ []; buffers = fold (with_use job.id ops.now) core.old.buffers bs.now }) }
     ensures err { OnErr result (core.new ≡ core.old) }
@@ -54,7 +55,8 @@ fn emit(core: &mut Core, job: Job, ops: &[Op], bs: &[BufId]) -> Result<(), NoMem
     Ok(())
 }
 
-/// The job of a thread's command is emitted: it waits for the jobs of its buffers, and becomes one of them.
+/// Emits the job of a thread's command: it waits for the jobs of its buffers, and becomes one of them. Without memory it leaves `state` as
+/// it was.
 pub fn arm(
     alloc: Global,
     script: &Script,
@@ -85,7 +87,7 @@ pub fn arm(
     Ok(())
 }
 
-/// A packet of a job has run.
+/// Counts one more packet of a job as run.
 pub fn packet_run(state: &mut State, ctx: u32, num: u64)
     requires { CanRun state.old (record { ctx = ctx; num = num }) }
     ensures { state.new ≡ after_packet_run state.old (record { ctx = ctx; num = num }) }
@@ -93,14 +95,14 @@ pub fn packet_run(state: &mut State, ctx: u32, num: u64)
     state.core.jobs.count_packet(JobId { ctx, num });
 }
 
-/// A job is done.
+/// Marks a job as done.
 pub fn done(state: &mut State, ctx: u32, num: u64)
     ensures { state.new ≡ after_done state.old (record { ctx = ctx; num = num }) }
 {
     state.core.jobs.finish(JobId { ctx, num });
 }
 
-/// Takes a ghost out.
+/// Removes the ghost numbered `num`.
 fn remove_ghost(ghosts: &mut Ghosts, num: u64)
     ensures { ghosts.new ≡ filter (λ h. not (h.num == num)) ghosts.old }
 {
@@ -114,7 +116,7 @@ fn remove_ghost(ghosts: &mut Ghosts, num: u64)
     }
 }
 
-/// A ghost goes.
+/// Removes the ghost numbered `num` from `state`.
 pub fn reap(state: &mut State, num: u64)
     ensures { state.new ≡ after_reap state.old num }
 {

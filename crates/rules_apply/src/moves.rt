@@ -17,7 +17,7 @@ use std::alloc::Global;
 use ttm_base::limits::PAGE_BYTES;
 use ttm_base::{BufId, JobId, Mem, NoMemory, Packet, PagePlace, Spans};
 
-/// A copy of a whole page.
+/// Returns the packet that copies a whole page.
 fn copy_of_page(to: PagePlace, from: PagePlace) -> Packet
     ensures { result ≡ rows.copy_of_page to from }
 {
@@ -30,7 +30,7 @@ fn copy_of_page(to: PagePlace, from: PagePlace) -> Packet
     }
 }
 
-/// One copy of each page of a buffer, from where it stands to its target in a memory type.
+/// Returns one copy of each page of `buffer`, from where it stands to its target in the memory type `mem`.
 fn move_packets(alloc: Global, buffer: &Buffer, mem: Mem) -> Result<Packets, NoMemory>
     requires { length buffer.now.table < 2 ^ 32 }
     ensures { IfOk result (λ packets. packets ≡ rows.move_packets buffer.now mem) }
@@ -44,7 +44,7 @@ fn move_packets(alloc: Global, buffer: &Buffer, mem: Mem) -> Result<Packets, NoM
     Ok(packets)
 }
 
-/// The job that moves a buffer to its target in a memory type, after all jobs of the buffer.
+/// Returns the job `id` that moves `buffer` to its target in the memory type `mem`, after all jobs of the buffer.
 fn move_job(
     alloc: Global,
     core: &Core,
@@ -64,7 +64,7 @@ fn move_job(
     })
 }
 
-/// The frames that a buffer leaves: those of a buffer in TT.
+/// Returns the frames that a move of `buffer` leaves: those of a buffer in TT.
 fn frames_left(alloc: Global, buffer: &Buffer) -> Result<Frames, NoMemory>
     ensures { IfOk result (λ frames. frames ≡ rows.frames_left buffer.now.mem buffer.now) }
 {
@@ -74,7 +74,7 @@ fn frames_left(alloc: Global, buffer: &Buffer) -> Result<Frames, NoMemory>
     }
 }
 
-/// A list of one job.
+/// Returns a list of the one job `id`.
 fn only(alloc: Global, id: JobId) -> Result<JobIds, NoMemory>
     ensures { IfOk result (λ jobs. jobs ≡ id ∷ []) }
 {
@@ -83,7 +83,7 @@ fn only(alloc: Global, id: JobId) -> Result<JobIds, NoMemory>
     Ok(jobs)
 }
 
-/// The ghost that a moved buffer leaves until the job is done.
+/// Returns the ghost numbered `num` that a moved buffer leaves until the job `id` is done.
 fn ghost_of_moved(alloc: Global, buffer: &Buffer, id: JobId, num: u64) -> Result<Ghost, NoMemory>
     ensures { IfOk result (λ left. left ≡ rows.ghost_of_moved buffer.now id num) }
 {
@@ -96,7 +96,7 @@ fn ghost_of_moved(alloc: Global, buffer: &Buffer, id: JobId, num: u64) -> Result
     })
 }
 
-/// The ghost that a move leaves, if its pages aren't free at once.
+/// Returns the ghost that a move leaves, or `None` if its pages are free at once.
 fn left_behind(
     alloc: Global,
     buffer: &Buffer,
@@ -114,7 +114,7 @@ fn left_behind(
     }
 }
 
-/// Takes the last ghost back.
+/// Removes the last ghost.
 fn drop_last_ghost(ghosts: &mut Ghosts)
     ensures { ghosts.new ≡ without_last ghosts.old }
 {
@@ -124,7 +124,7 @@ fn drop_last_ghost(ghosts: &mut Ghosts)
     }
 }
 
-/// Carries a buffer, and adds what it leaves behind.
+/// Carries buffer `b` to its target, and adds `behind`, what it leaves. Without memory it leaves `core` as it was.
 fn carry_and_leave(
     alloc: Global,
     core: &mut Core,
@@ -147,7 +147,7 @@ fn carry_and_leave(
     Ok(())
 }
 
-/// Emits the job of a move.
+/// Emits `job`, a move of buffer `b`, and adds `behind`, what it leaves. Without memory it leaves `core` as it was.
 fn emit(
     alloc: Global,
     core: &mut Core,
@@ -168,7 +168,7 @@ fn emit(
     Ok(())
 }
 
-/// The core after a move.
+/// Makes `core` the core after a move of buffer `b`. Without memory it leaves `core` as it was.
 fn move_in_core(
     alloc: Global,
     core: &mut Core,
@@ -192,7 +192,7 @@ fn move_in_core(
     Ok(())
 }
 
-/// A buffer moves to its target by a job of context 0 (ttm_bo_move_accel_cleanup).
+/// Moves buffer `b` to its target by a job of context 0 (ttm_bo_move_accel_cleanup). Without memory it leaves `state` as it was.
 #[tactic(auto, using(crate::proofs::Rows::after_move_job_is))]
 pub fn move_buffer(
     alloc: Global,

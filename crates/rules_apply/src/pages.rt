@@ -10,7 +10,7 @@ use rules_state::rules_parts::{buffers, courses};
 use std::alloc::Global;
 use ttm_base::{BufId, JobId, Loc, Mem, NoMemory, Spans};
 
-/// The job that a target waits for: in VRAM the last one that moved a victim out, until it is done.
+/// Returns the job that a target waits for: in VRAM the last one that moved a victim out, until it is done.
 fn move_fence(core: &Core, mem: Mem) -> Option<JobId>
     ensures { option_to_list result ≡ jobs_before_target core.now mem }
 {
@@ -20,7 +20,7 @@ fn move_fence(core: &Core, mem: Mem) -> Option<JobId>
     }
 }
 
-/// A buffer gets a target, in VRAM with the move fence.
+/// Gives buffer `b` the target `spans` in the memory type `mem`, in VRAM with the move fence. Without memory it leaves `state` as it was.
 pub fn take(
     state: &mut State,
     thread: u32,
@@ -40,42 +40,42 @@ pub fn take(
     Ok(())
 }
 
-/// A buffer gives a target back.
+/// Takes the target in the memory type `mem` from buffer `b`.
 pub fn untake(state: &mut State, b: BufId, mem: Mem)
     ensures { state.new ≡ after_untake state.old b mem }
 {
     buffers::drop_target(&mut state.core.buffers, b, mem);
 }
 
-/// A page of a buffer gets a frame.
+/// Gives page `page` of buffer `b` the frame `frame`.
 pub fn populate(state: &mut State, b: BufId, page: u32, frame: u32)
     ensures { state.new ≡ after_populate state.old b page frame }
 {
     buffers::set_page(&mut state.core.buffers, b, page, Loc::Frame(frame));
 }
 
-/// A page of a buffer comes back from swap into a frame.
+/// Brings page `page` of buffer `b` back from swap into the frame `frame`.
 pub fn swap_in(state: &mut State, b: BufId, page: u32, frame: u32)
     ensures { state.new ≡ after_swap_in state.old b page frame }
 {
     buffers::set_page(&mut state.core.buffers, b, page, Loc::Frame(frame));
 }
 
-/// A page of a buffer goes to a swap slot.
+/// Moves page `page` of buffer `b` to the swap slot `slot`.
 pub fn swap_out(state: &mut State, b: BufId, page: u32, slot: u32)
     ensures { state.new ≡ after_swap_out state.old b page slot }
 {
     buffers::set_page(&mut state.core.buffers, b, page, Loc::Slot(slot));
 }
 
-/// A buffer gives its frames back.
+/// Takes the frames from buffer `b`.
 pub fn depopulate(state: &mut State, b: BufId)
     ensures { state.new ≡ after_depopulate state.old b }
 {
     buffers::depopulate(&mut state.core.buffers, b);
 }
 
-/// A buffer goes from SYSTEM to TT (ttm_bo_move_null).
+/// Moves buffer `b` from SYSTEM to TT (ttm_bo_move_null). Without memory it leaves `state` as it was.
 #[tactic(auto, using(crate::proofs::Rows::after_bind_is))]
 pub fn bind(alloc: Global, script: &Script, state: &mut State, b: BufId) -> Result<(), NoMemory>
     ensures ok { OnOk result (state.new ≡ after_bind script.now state.old b) }
@@ -95,7 +95,7 @@ pub fn bind(alloc: Global, script: &Script, state: &mut State, b: BufId) -> Resu
     Ok(())
 }
 
-/// A buffer goes from TT to SYSTEM (ttm_bo_wait_ctx, then a driver's unbind).
+/// Moves buffer `b` from TT to SYSTEM (ttm_bo_wait_ctx, then a driver's unbind). Without memory it leaves `state` as it was.
 #[tactic(auto, using(crate::proofs::Rows::after_unbind_is))]
 pub fn unbind(alloc: Global, script: &Script, state: &mut State, b: BufId) -> Result<(), NoMemory>
     ensures ok { OnOk result (state.new ≡ after_unbind script.now state.old b) }

@@ -9,14 +9,14 @@ use rules_state::{command_at_work, course_of, live_in, reservation_in};
 use ttm_base::limits::MAX_PINS;
 use ttm_base::{BufId, JobId};
 
-/// The thread is there.
+/// Returns whether there is a thread numbered `thread`.
 fn has_thread(state: &State, thread: u32) -> bool
     ensures { IsTrue result ↔ facts.IsThread state.now thread }
 {
     course_of(state, thread).is_some()
 }
 
-/// The thread may answer one more command.
+/// Returns whether the thread numbered `thread` may answer one more command.
 fn can_answer(state: &State, thread: u32) -> bool
     ensures { IsTrue result ↔ facts.CanAnswer state.now thread }
 {
@@ -26,7 +26,7 @@ fn can_answer(state: &State, thread: u32) -> bool
     }
 }
 
-/// The command pins no buffer that is pinned as often as can be counted.
+/// Returns whether `command` pins no buffer that is pinned as often as can be counted.
 fn has_pins_left(reservations: &[Reservation], command: Option<&Command>) -> bool
     ensures { IsTrue result ↔ HasPinsLeft reservations.now (option_copied command.entry) }
 {
@@ -36,7 +36,7 @@ fn has_pins_left(reservations: &[Reservation], command: Option<&Command>) -> boo
     }
 }
 
-/// The thread may answer the command that it is at.
+/// Returns whether the thread numbered `thread` may answer the command that it is at.
 fn can_show_result(script: &Script, state: &State, thread: u32) -> bool
     ensures { IsTrue result ↔ facts.CanShowResult script.now state.now thread }
 {
@@ -47,14 +47,14 @@ fn can_show_result(script: &Script, state: &State, thread: u32) -> bool
         )
 }
 
-/// The search may go on after its k-th place.
+/// Returns whether the search may go on after its `k`-th place.
 fn can_go_dry(state: &State, thread: u32, k: u32) -> bool
     ensures { IsTrue result ↔ facts.CanGoDry state.now thread k }
 {
     has_thread(state, thread) && k < u32::MAX
 }
 
-/// The pages of a buffer can be counted.
+/// Returns whether the pages of buffer `b` can be counted.
 fn has_short_table(state: &State, b: BufId) -> bool
     ensures { IsTrue result ↔ facts.HasShortTable state.now b }
 {
@@ -64,7 +64,7 @@ fn has_short_table(state: &State, b: BufId) -> bool
     }
 }
 
-/// The entry can be applied in this state. Each entry that is legal next can be.
+/// Returns whether `entry` can be applied in `state`. Each entry that is legal next can be.
 pub fn is_ready(script: &Script, state: &State, entry: &Entry) -> bool
     ensures { IsTrue result ↔ facts.IsReady script.now state.now entry.now }
 {

@@ -10,7 +10,7 @@ use rules_state::{command_at_work, forced_places, is_caught, place_search_at_wor
 use std::alloc::Global;
 use ttm_base::{BufId, Deny, NoMemory};
 
-/// How many places the search of a buffer tries under pressure.
+/// Counts the places that the search of buffer `b` tries under pressure.
 fn forced_count(
     alloc: Global,
     script: &Script,
@@ -26,7 +26,8 @@ fn forced_count(
     Ok(places.len())
 }
 
-/// A place is dry. After the last one the search of a named buffer has failed; a victim has one place alone.
+/// Notes that place `k` is dry. After the last one the search of a named buffer has failed; a victim has one place alone. Without memory it
+/// leaves `state` as it was.
 #[tactic(auto, using(ttm_base::proofs::ListLaws::set_same))]
 pub fn dry(
     alloc: Global,

@@ -10,7 +10,7 @@ use rules_state::{new_course, no_reservation};
 use std::alloc::Global;
 use ttm_base::NoMemory;
 
-/// Each declared buffer, dead.
+/// Returns an entry for each declared buffer, all of them dead.
 fn dead_buffers(alloc: Global, decls: &[Decl]) -> Result<Buffers, NoMemory>
     ensures { IfOk result (λ buffers. buffers ≡ map (λ d. None) decls.now) }
 {
@@ -21,7 +21,7 @@ fn dead_buffers(alloc: Global, decls: &[Decl]) -> Result<Buffers, NoMemory>
     Ok(buffers)
 }
 
-/// A reservation of each declared buffer.
+/// Returns a reservation for each declared buffer, neither pinned nor held.
 fn no_reservations(alloc: Global, decls: &[Decl]) -> Result<Reservations, NoMemory>
     ensures { IfOk result (λ reservations. reservations ≡ map (λ d. words.no_reservation) decls.now) }
 {
@@ -32,7 +32,7 @@ fn no_reservations(alloc: Global, decls: &[Decl]) -> Result<Reservations, NoMemo
     Ok(reservations)
 }
 
-/// So many empty lists of buffers.
+/// Returns `count` empty lists of buffers.
 fn empty_lists(alloc: Global, count: u32) -> Result<Lists, NoMemory>
     ensures { IfOk result (λ lists. lists ≡ replicate count []) }
 {
@@ -43,7 +43,7 @@ fn empty_lists(alloc: Global, count: u32) -> Result<Lists, NoMemory>
     Ok(lists)
 }
 
-/// So many zeros.
+/// Returns `count` zeros.
 fn zeros(alloc: Global, count: usize) -> Result<Numbers, NoMemory>
     ensures { IfOk result (λ numbers. numbers ≡ replicate count 0) }
 {
@@ -54,7 +54,7 @@ fn zeros(alloc: Global, count: usize) -> Result<Numbers, NoMemory>
     Ok(numbers)
 }
 
-/// Each thread at its first command.
+/// Returns the courses of `threads`, each at its first command.
 fn first_courses(alloc: Global, threads: &[Commands]) -> Result<Courses, NoMemory>
     ensures { IfOk result (λ courses. courses ≡ map (λ commands. words.new_course 0) threads.now) }
 {
@@ -65,7 +65,7 @@ fn first_courses(alloc: Global, threads: &[Commands]) -> Result<Courses, NoMemor
     Ok(courses)
 }
 
-/// The state before all entries: all buffers dead, all pages free, all lists empty.
+/// Returns the state before all entries: all buffers dead, all pages free, all lists empty.
 pub fn first_state(alloc: Global, script: &Script) -> Result<State, NoMemory>
     ensures { IfOk result (λ s. s ≡ legal.first_state script.now) }
 {

@@ -8,7 +8,7 @@ use rules_state::rules_parts::reservations;
 use std::alloc::Global;
 use ttm_base::{BufId, NoMemory, Stamp};
 
-/// A thread draws a ticket (ww_acquire_init).
+/// Gives the thread numbered `thread` the ticket `stamp` (ww_acquire_init).
 pub fn ticket(state: &mut State, thread: u32, stamp: Stamp)
     requires { IsThread state.old thread }
     ensures { state.new ≡ after_ticket state.old thread stamp }
@@ -18,7 +18,7 @@ pub fn ticket(state: &mut State, thread: u32, stamp: Stamp)
     course.stamp = Some(stamp);
 }
 
-/// A thread reserves a buffer with its stamp (dma_resv_lock).
+/// Reserves buffer `b` for the thread numbered `thread` with its stamp (dma_resv_lock). Without memory it leaves `state` as it was.
 #[tactic(auto, using(ttm_base::proofs::ListLaws::set_same))]
 pub fn reserve(state: &mut State, thread: u32, b: BufId) -> Result<(), NoMemory>
     requires { IsThread state.old thread }
@@ -32,7 +32,7 @@ pub fn reserve(state: &mut State, thread: u32, b: BufId) -> Result<(), NoMemory>
     Ok(())
 }
 
-/// A thread lets its reservations go, and begins again with a buffer.
+/// Lets all reservations of the thread numbered `thread` go, after which it begins again with buffer `b`.
 pub fn back_off(alloc: Global, state: &mut State, thread: u32, b: BufId)
     requires { IsThread state.old thread }
     ensures { state.new ≡ after_backoff state.old thread b }
@@ -43,7 +43,7 @@ pub fn back_off(alloc: Global, state: &mut State, thread: u32, b: BufId)
     course.first = Some(b);
 }
 
-/// A thread's command is refused.
+/// Refuses the command of the thread numbered `thread`, whose buffers are let go.
 pub fn refuse(alloc: Global, state: &mut State, thread: u32)
     requires { CanAnswer state.old thread }
     ensures { state.new ≡ after_refusal state.old thread }

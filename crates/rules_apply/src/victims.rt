@@ -8,7 +8,7 @@ use rules_state::rules_parts::{buffers, courses, reservations};
 use std::alloc::Global;
 use ttm_base::{BufId, Deny, NoMemory};
 
-/// A thread finds no page for a buffer.
+/// Notes that the thread numbered `thread` finds no page for buffer `b`.
 pub fn no_pages(state: &mut State, thread: u32, b: BufId)
     requires { IsThread state.old thread }
     ensures { state.new ≡ after_no_pages state.old thread b }
@@ -17,7 +17,7 @@ pub fn no_pages(state: &mut State, thread: u32, b: BufId)
     courses::fail_search(course, b, Deny::NoPages);
 }
 
-/// A thread lets a victim go and skips it.
+/// Lets the victim `b` go and skips it. Without memory it leaves `state` as it was.
 #[tactic(auto, using(ttm_base::proofs::ListLaws::set_same))]
 pub fn skip(state: &mut State, thread: u32, b: BufId) -> Result<(), NoMemory>
     requires { IsThread state.old thread }
@@ -30,7 +30,7 @@ pub fn skip(state: &mut State, thread: u32, b: BufId) -> Result<(), NoMemory>
     Ok(())
 }
 
-/// A thread catches a victim, for pages of a memory type or for frames.
+/// Catches the victim `b`, for pages of a memory type or for frames, as `why` tells. Without memory it leaves `state` as it was.
 #[tactic(auto, using(ttm_base::proofs::ListLaws::set_same))]
 pub fn catch(
     alloc: Global,
@@ -51,7 +51,7 @@ pub fn catch(
     Ok(())
 }
 
-/// A thread lets a victim go.
+/// Lets the victim `b` go. Without memory it leaves `state` as it was.
 #[tactic(auto, using(rules_state::proofs::rules_parts::ListingLaws::touched_released))]
 pub fn loose(
     alloc: Global,

@@ -2,6 +2,6 @@
 use Rattle.ttm_base.specs.BuddyChoice as buddy
 use Rattle.rules_choice.specs.declared.blocks.FreeBlock.{FreeBlock}
 
--- the same block and order
+-- the candidate with the same block and order
 abbrev pub candidate_of : FreeBlock → buddy.Candidate
 candidate_of c = record { block = c.block; whole = c.whole }

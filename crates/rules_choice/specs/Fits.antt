@@ -6,11 +6,11 @@ use Rattle.ttm_base.specs.Reach.{length_of}
 use Rattle.ttm_base.specs.RangeChoice as range
 use Rattle.rules_choice.specs.declared.ranges.Fit.{Fit}
 
--- the same hole and pages
+-- the fit with the same hole and pages
 abbrev pub fit_of : Fit → range.Fit
 fit_of f = record { hole = f.hole; taken = f.taken }
 
--- the best of the fits before, and one in a higher hole
+-- the better of the best fit so far, and one in a higher hole
 abbrev pub better_fit : Mode → Option range.Fit → range.Fit → range.Fit
 better_fit mode None f = f
 better_fit Best (Some b) f = if nat_lt (length_of f.hole) (length_of b.hole) then f else b

@@ -10,7 +10,7 @@ lesser_by key (Some y) x = if nat_lt (key x) (key y) then x else y
 abbrev pub best_with : {X : Type 0} → (X → ℕ) → Option X → Option X → Option X
 best_with key best found = elim found [ None ↦ best | Some x ↦ Some (lesser_by key best x) ]
 
--- there is one with this key
+-- there is an item, and it has this key
 abbrev pub has_key : {X : Type 0} → (X → ℕ) → ℕ → Option X → Bool
 has_key key k None = false
 has_key key k (Some x) = nat_eq (key x) k

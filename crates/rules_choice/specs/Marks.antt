@@ -18,7 +18,7 @@ pub record AreRuns (marks : List Bool) (runs : List ℕ) : Type 0 where
   pub first : slice_index runs 0 ≡ 0
   pub next : (page : ℕ) → page < length marks → slice_index runs (page + 1) ≡ (if marked marks page then slice_index runs page + 1 else 0)
 
--- they do so but right after the pages of a span
+-- the runs tell so of each page but of those right after the pages of a span
 pub record AreRunsBeside (marks : List Bool) (span : Span) (runs : List ℕ) : Type 0 where
   pub len : length runs ≡ length marks + 1
   pub first : slice_index runs 0 ≡ 0

@@ -5,7 +5,7 @@ ghost use Rattle.rules_choice.specs.Marks.{marked, AreRuns, AreRunsBeside};
 use std::alloc::Global;
 use ttm_base::{NoMemory, Span, log2};
 
-/// The free pages of a manager, and of each page, and of the end, how many of them stand right before it.
+/// The free pages of a manager, and for each page, and for the end, the number of free pages right before it.
 #[derive(Drop)]
 pub struct FreePages {
     pub marks: Vec<bool>,
@@ -14,7 +14,7 @@ pub struct FreePages {
     ghost small: { length marks.items < 2 ^ 32 },
 }
 
-/// A free block inside the range, and the order of the free block that it would be split from.
+/// A free block inside the range, and the order of the free block from which it would be split.
 #[derive(Clone, Copy)]
 pub struct FreeBlock {
     pub block: Span,
@@ -22,7 +22,7 @@ pub struct FreeBlock {
     ghost small: { whole < 64 },
 }
 
-/// How many marked pages stand right before each page.
+/// Counts for each page, and for the end, the marked pages that stand right before it.
 fn runs_of(alloc: Global, marks: &[bool]) -> Result<Vec<u32>, NoMemory>
     requires { length marks.now < 2 ^ 32 }
     ensures { IfOk result (λ runs. AreRuns marks.now runs.items) }
@@ -37,7 +37,7 @@ fn runs_of(alloc: Global, marks: &[bool]) -> Result<Vec<u32>, NoMemory>
     Ok(runs)
 }
 
-/// Counts the free pages that are marked.
+/// Counts the free pages right before each page for `marks`, which are set for the free pages.
 pub fn counted(alloc: Global, marks: Vec<bool>) -> Result<FreePages, NoMemory>
     requires { length marks.items < 2 ^ 32 }
     ensures { IfOk result (λ free. free.marks.items ≡ marks.items) }
@@ -46,7 +46,7 @@ pub fn counted(alloc: Global, marks: Vec<bool>) -> Result<FreePages, NoMemory>
     Ok(FreePages { marks, runs })
 }
 
-/// Counts the marked pages again that stand right before a page, from a span on whose marks changed, as far as that changes anything.
+/// Counts the marked pages right before each page from `span` on, whose marks changed, as far as that changes anything.
 pub fn count_anew(marks: &[bool], runs: &mut [u32], span: Span)
     requires small { length marks.now < 2 ^ 32 }
     requires beside { AreRunsBeside marks.now span runs.old }
@@ -62,7 +62,7 @@ pub fn count_anew(marks: &[bool], runs: &mut [u32], span: Span)
     }
 }
 
-/// The pages of a block of an order.
+/// Returns the number of pages of a block of order `order`.
 pub fn block_len(order: u32) -> usize
     requires { order < 64 }
     ensures value { result ≡ 2 ^ order }
@@ -73,7 +73,7 @@ pub fn block_len(order: u32) -> usize
 }
 
 impl FreePages {
-    /// All pages of the block of this order around a page are free, and it ends within the size.
+    /// Returns whether all pages of the block of order `order` around `page` are free and it ends within the size.
     pub fn is_free_block(&self, order: u32, page: usize) -> bool
         requires order { order < 64 }
         requires page { page < 2 ^ 32 }
@@ -85,7 +85,7 @@ impl FreePages {
         end < self.runs.len() && self.runs[end] as usize >= len
     }
 
-    /// The order of the largest free block around a free block.
+    /// Returns the order of the largest free block around the free block of order `order` around `page`.
     pub fn free_order(&self, order: u32, page: usize) -> u32
         requires order { order ≤ 32 }
         requires page { page < 2 ^ 32 }

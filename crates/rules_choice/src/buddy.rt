@@ -9,7 +9,7 @@ use place_list::rules_places::length_of;
 use std::alloc::Global;
 use ttm_base::{NoMemory, Span, Spans, log2, order_of};
 
-/// The free pages without those of a block that was taken.
+/// Returns the free pages without those of `block`, which was taken.
 fn without(free: FreePages, block: Span) -> FreePages
     ensures { IsWithout free.marks.items block result.marks.items }
 {
@@ -22,7 +22,7 @@ fn without(free: FreePages, block: Span) -> FreePages
     FreePages { marks, runs }
 }
 
-/// Block after block until no page is left.
+/// Takes block after block until no page is left of `pages`, each as large as can be. Returns `None` if there are too few blocks.
 fn scattered(
     alloc: Global,
     free: FreePages,
@@ -51,7 +51,7 @@ fn scattered(
     if left == 0 { Ok(Some(spans)) } else { Ok(None) }
 }
 
-/// One block of the next power of two, cut to the pages.
+/// Takes one block of the next power of two, cut to `pages` pages. Returns `None` if there is none.
 fn contiguous(
     alloc: Global,
     free: &FreePages,
@@ -73,7 +73,8 @@ fn contiguous(
     }
 }
 
-/// The blocks that a request takes among marked pages: one for a contiguous request, else block after block.
+/// Returns the blocks that a request takes among marked pages: one for a contiguous request, else block after block. `None` if the request
+/// can't be met.
 pub fn buddy_choice(
     alloc: Global,
     marks: Vec<bool>,

@@ -9,7 +9,7 @@ use crate::blocks::{FreeBlock, FreePages, block_len};
 use place_list::rules_places::is_inside;
 use ttm_base::Span;
 
-/// The block of this order at a start, if it is free and inside the range.
+/// Returns the block of order `order` around the page `start`, if it is free and inside `range`.
 fn candidate_at(free: &FreePages, range: Span, order: u32, start: usize) -> Option<FreeBlock>
     requires order { order ≤ 32 }
     requires start { start < 2 ^ 32 }
@@ -34,7 +34,7 @@ fn candidate_at(free: &FreePages, range: Span, order: u32, start: usize) -> Opti
     }
 }
 
-/// The candidate so far, or one after it that is split from a smaller block.
+/// Returns `best`, the candidate so far, or `next`, which comes after it, if that is split from a smaller block.
 fn lesser(best: Option<FreeBlock>, next: FreeBlock) -> FreeBlock
     ensures { candidate_of result ≡ lesser_by (λ c. c.whole) (option_map candidate_of best) (candidate_of next) }
 {
@@ -44,7 +44,7 @@ fn lesser(best: Option<FreeBlock>, next: FreeBlock) -> FreeBlock
     }
 }
 
-/// How many blocks of an order there are.
+/// Counts the blocks of order `order` among `size` pages.
 fn blocks_of(order: u32, size: usize) -> usize
     requires { order ≤ 32 }
     ensures { result ≡ size / 2 ^ order }
@@ -52,7 +52,7 @@ fn blocks_of(order: u32, size: usize) -> usize
     size / block_len(order)
 }
 
-/// The start of the i-th block of an order that is looked at.
+/// Returns the start of the `i`-th block of order `order` that is looked at, from the top down for `topdown`.
 fn start_at(topdown: bool, order: u32, size: usize, i: usize) -> usize
     requires order { order ≤ 32 }
     requires size { size < 2 ^ 32 }
@@ -68,8 +68,8 @@ fn start_at(topdown: bool, order: u32, size: usize, i: usize) -> usize
     block * block_len(order)
 }
 
-/// The candidate so far, or the block of this order at a start, if that is one and is split from a smaller block. None is where a
-/// block of the order that the candidate so far is split from is free.
+/// Returns `best`, the candidate so far, or the block of order `order` at `start`, if it is a candidate and is split from a smaller block.
+/// Where the block around `start` of the order from which `best` is split is free, `best` stays.
 fn next_best(
     free: &FreePages,
     range: Span,
@@ -92,7 +92,7 @@ fn next_best(
     }
 }
 
-/// The candidate is split from no greater block: no other is split from a smaller one.
+/// Returns whether `best` is split from no greater block: no other is split from a smaller one.
 fn is_whole(best: Option<FreeBlock>, order: u32) -> bool
     ensures { result ≡ has_key (λ c. c.whole) order (option_map candidate_of best) }
 {
@@ -102,7 +102,8 @@ fn is_whole(best: Option<FreeBlock>, order: u32) -> bool
     }
 }
 
-/// A free block of this order, split from the smallest one: among equals the lowest, or for topdown the highest.
+/// Returns a free block of order `order`, split from the smallest one: among equals the lowest, or for `topdown` the highest. `None` if
+/// there is none.
 pub fn candidate(free: &FreePages, range: Span, topdown: bool, order: u32) -> Option<FreeBlock>
     requires { order ≤ 32 }
     ensures { option_map candidate_of result ≡ words.candidate (marked free.now.marks.items) (length free.now.marks.items) range topdown order }
@@ -119,7 +120,7 @@ pub fn candidate(free: &FreePages, range: Span, topdown: bool, order: u32) -> Op
     best
 }
 
-/// A candidate of the greatest order below a bound that has one.
+/// Returns a candidate of the greatest order below `orders` that has one, or `None` if none has.
 pub fn first_candidate(
     free: &FreePages,
     range: Span,

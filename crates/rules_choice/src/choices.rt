@@ -14,7 +14,7 @@ use rules_state::{declared_align, declared_pages, reach_of, size_of};
 use std::alloc::Global;
 use ttm_base::{BufId, Mem, Mode, NoMemory, Place, Spans};
 
-/// Marks for the free pages of a memory type.
+/// Returns marks for the pages of the memory type `mem`, set for those that are free.
 fn marks_of(alloc: Global, script: &Script, core: &Core, mem: Mem) -> Result<Vec<bool>, NoMemory>
     ensures marked { IfOk result (λ marks. IsMarked (is_free_page mem core.now) (size_of script.now mem) marks.items) }
     ensures small { IfOk result (λ marks. length marks.items < 2 ^ 32) }
@@ -23,7 +23,7 @@ fn marks_of(alloc: Global, script: &Script, core: &Core, mem: Mem) -> Result<Vec
     free_marks(alloc, held.items(), size_of(script, mem))
 }
 
-/// The holes of a memory type, in rising order.
+/// Returns the holes of the memory type `mem`, in rising order.
 #[tactic(auto, using(crate::proofs::BelowLaws::holes_below))]
 fn holes_of(alloc: Global, script: &Script, core: &Core, mem: Mem) -> Result<Spans, NoMemory>
     ensures { IfOk result (λ found. found ≡ holes (is_free_page mem core.now) (size_of script.now mem)) }
@@ -32,7 +32,7 @@ fn holes_of(alloc: Global, script: &Script, core: &Core, mem: Mem) -> Result<Spa
     holes_among(alloc, &marks)
 }
 
-/// A range with the buffer's alignment, from the top where the place says so.
+/// Returns a range with the buffer's alignment, from the top where `place` says so, or `None` if no hole fits.
 fn range_at(
     alloc: Global,
     script: &Script,
@@ -56,7 +56,7 @@ fn range_at(
     }
 }
 
-/// Blocks, from the top or in one piece where the place says so.
+/// Returns blocks for buffer `b`, from the top or in one piece where `place` says so, or `None` if there aren't enough.
 fn blocks_at(
     alloc: Global,
     script: &Script,
@@ -77,7 +77,7 @@ fn blocks_at(
     )
 }
 
-/// The pages that a place has for a buffer, if it has a choice; none are needed in SYSTEM.
+/// Returns the pages that `place` has for buffer `b`, or `None` if it has no choice. None are needed in SYSTEM.
 pub fn choice(
     alloc: Global,
     script: &Script,

@@ -5,7 +5,7 @@ ghost use Rattle.rules_choice.specs.Marks.{marked, IsMarked};
 use std::alloc::Global;
 use ttm_base::{NoMemory, Span, Spans};
 
-/// Clears the marks of a span's pages.
+/// Clears the marks of the pages of `span`.
 pub fn take_span(marks: &mut Vec<bool>, span: Span)
     ensures len { length marks.new.items ≡ length marks.old.items }
     ensures taken { (page : ℕ) → marked marks.new.items page ≡ (marked marks.old.items page && not (words.has_page page span)) }
@@ -17,7 +17,7 @@ pub fn take_span(marks: &mut Vec<bool>, span: Span)
     }
 }
 
-/// Marks for the pages of a manager that no span has.
+/// Returns marks for `size` pages of a manager, set for those that no span of `held` has.
 pub fn free_marks(alloc: Global, held: &[Span], size: u32) -> Result<Vec<bool>, NoMemory>
     ensures { IfOk result (λ marks. IsMarked (words.is_free_beside held.now) size marks.items) }
 {
@@ -28,7 +28,7 @@ pub fn free_marks(alloc: Global, held: &[Span], size: u32) -> Result<Vec<bool>, 
     Ok(marks)
 }
 
-/// Puts a free page after all holes so far: it widens the last one that it touches, or is a new one.
+/// Adds the free page `page` after all holes so far: it widens the last one that it touches, or is a new one.
 fn add_page(holes: &mut Spans, page: u32) -> Result<(), NoMemory>
     requires { page + 1 < 2 ^ 32 }
     ensures { OnOk result (holes.new ≡ words.with_page page holes.old) }
@@ -53,7 +53,7 @@ fn add_page(holes: &mut Spans, page: u32) -> Result<(), NoMemory>
     })
 }
 
-/// The holes among marked pages, in rising order.
+/// Returns the holes among the marked pages, in rising order.
 pub fn holes_among(alloc: Global, marks: &[bool]) -> Result<Spans, NoMemory>
     requires { length marks.now < 2 ^ 32 }
     ensures { IfOk result (λ found. found ≡ words.holes (marked marks.now) (length marks.now)) }

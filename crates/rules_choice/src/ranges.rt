@@ -12,8 +12,7 @@ pub struct Fit {
     pub taken: Span,
 }
 
-/// The first page to test in a hole that was cut to the range, on a multiple of the alignment: from its start up, or from its end
-/// down.
+/// Returns the first page to test in `hole`, which was cut to the range, on a multiple of `align`: from its start up, or from its end down.
 fn start_to_test(mode: Mode, pages: u32, align: u32, hole: Span) -> u64
     ensures { result ≡ words.start_to_test mode pages align hole }
 {
@@ -27,7 +26,7 @@ fn start_to_test(mode: Mode, pages: u32, align: u32, hole: Span) -> u64
     }
 }
 
-/// The hole and the pages taken of it, if it fits.
+/// Returns `hole` and the pages taken of it, if the request fits.
 fn fit_in(mode: Mode, pages: u32, align: u32, range: Span, hole: Span) -> Option<Fit>
     ensures { option_map fit_of result ≡ words.fit_in mode pages align range hole }
 {
@@ -47,7 +46,7 @@ fn fit_in(mode: Mode, pages: u32, align: u32, range: Span, hole: Span) -> Option
     }
 }
 
-/// The better of the best fit so far and one in a higher hole.
+/// Returns the better of `best`, the best fit so far, and `fit`, which is in a higher hole.
 fn better(mode: Mode, best: Option<Fit>, fit: Fit) -> Fit
     ensures { fit_of result ≡ better_fit mode (option_map fit_of best) (fit_of fit) }
 {
@@ -64,7 +63,8 @@ fn better(mode: Mode, best: Option<Fit>, fit: Fit) -> Fit
     }
 }
 
-/// The hole that a request takes: the shortest, the lowest or the highest that fits. The holes are in rising order.
+/// Returns the hole that a request takes: the shortest, the lowest or the highest that fits. The holes are in rising order. `None` if none
+/// fits.
 fn fitting_hole(mode: Mode, holes: &[Span], pages: u32, align: u32, range: Span) -> Option<Fit>
     ensures { option_map fit_of result ≡ words.fitting_hole mode holes.now pages align range }
 {
@@ -77,7 +77,7 @@ fn fitting_hole(mode: Mode, holes: &[Span], pages: u32, align: u32, range: Span)
     best
 }
 
-/// The pages that a request takes among the holes, which are in rising order.
+/// Returns the pages that a request takes among `holes`, which are in rising order, or `None` if none fits.
 pub fn range_choice(mode: Mode, holes: &[Span], pages: u32, align: u32, range: Span) -> Option<Span>
     ensures { result ≡ words.range_choice mode holes.now pages align range }
 {

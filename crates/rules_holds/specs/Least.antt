@@ -11,7 +11,7 @@ use Rattle.rules_holds.specs.declared.least.Look.{Look}
 abbrev pub is_from : List ℕ → JobId → Bool
 is_from least i = nat_le (length least) i.ctx || nat_le (slice_index_or least i.ctx 0) i.num
 
--- so is that of the job, unless it is done
+-- the job is done, or its number is no less than the one that is kept for its context, if one is
 abbrev pub is_counted : List ℕ → Job → Bool
 is_counted least j = j.finished || is_from least j.id
 
@@ -23,6 +23,6 @@ AreLeast c least = (i : JobId) → is_from least i ≡ false → is_unfinished c
 abbrev pub IsLeast : Core → ℕ → ℕ → Type 0
 IsLeast c ctx least = (num : ℕ) → num < least → is_unfinished c (record { ctx = ctx; num = num }) ≡ false
 
--- the numbers of a look, if it has them, are such numbers
+-- the least numbers of a look, if it has them, are such that no job with a lesser number is unfinished
 abbrev pub IsLook : Core → Look → Type 0
 IsLook c look = (least : Least) → look.least ≡ Some least → AreLeast c least.by_context

@@ -6,12 +6,12 @@ use Rattle.journal_model.specs.declared.state.Job.{Job}
 use Rattle.ttm_base.specs.declared.JobId.{JobId}
 use Rattle.ttm_base.specs.Fences.{is_named_before}
 
--- the one of those before it and this one
+-- the job to name of the one named before and this one: in the lesser context, or of one context the greater number
 abbrev pub named_last : Option JobId → JobId → JobId
 named_last None i = i
 named_last (Some j) i = if is_named_before i j then i else j
 
--- the one of those before them and of these, of which one may be named
+-- the job to name of the one named among earlier jobs and the one named among these, where there is one
 abbrev pub named_of : Option JobId → Option JobId → Option JobId
 named_of named None = named
 named_of named (Some i) = Some (named_last named i)

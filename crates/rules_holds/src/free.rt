@@ -12,10 +12,10 @@ use std::alloc::Global;
 use std::marker::Model;
 use ttm_base::{Loc, NoMemory};
 
-/// How many marks are looked at at once.
+/// The number of marks that are looked at at once.
 const STRIDE: usize = 64;
 
-/// So many marks, none of them set.
+/// Returns `size` marks, none of them set.
 fn unmarked(alloc: Global, size: u32) -> Result<Vec<bool>, NoMemory>
     ensures { IfOk result (λ marks. marks.items ≡ replicate size false) }
 {
@@ -23,7 +23,7 @@ fn unmarked(alloc: Global, size: u32) -> Result<Vec<bool>, NoMemory>
     Ok(marks)
 }
 
-/// Sets the mark of a number. A number past the marks has none.
+/// Sets the mark of `number`. A number past the marks has none.
 #[tactic(auto, using(crate::proofs::MarkLaws::marked_one, crate::proofs::MarkLaws::marked_past))]
 fn mark(marks: &mut Vec<bool>, number: u32)
     ensures { AreMarked marks.old.items (number ∷ []) marks.new.items }
@@ -34,7 +34,7 @@ fn mark(marks: &mut Vec<bool>, number: u32)
     }
 }
 
-/// Sets the mark of each number.
+/// Sets the mark of each of `numbers`.
 fn mark_all(marks: &mut Vec<bool>, numbers: &[u32])
     ensures { AreMarked marks.old.items numbers.now marks.new.items }
 {
@@ -43,7 +43,7 @@ fn mark_all(marks: &mut Vec<bool>, numbers: &[u32])
     }
 }
 
-/// Sets the mark of a page's frame, if it has one.
+/// Sets the mark of the frame in which a page at `loc` lies, if it lies in one.
 #[tactic(auto, using(crate::proofs::MarkLaws::marked_nothing))]
 fn mark_frame(marks: &mut Vec<bool>, loc: Loc)
     ensures { AreMarked marks.old.items (option_to_list (places.frame_of loc)) marks.new.items }
@@ -53,7 +53,7 @@ fn mark_frame(marks: &mut Vec<bool>, loc: Loc)
     }
 }
 
-/// Sets the mark of each frame in a page table.
+/// Sets the mark of each frame in the page table `table`.
 fn mark_frames(marks: &mut Vec<bool>, table: &[Loc])
     ensures { AreMarked marks.old.items (filter_map places.frame_of table.now) marks.new.items }
 {
@@ -62,7 +62,7 @@ fn mark_frames(marks: &mut Vec<bool>, table: &[Loc])
     }
 }
 
-/// Sets the mark of a page's slot, if it has one.
+/// Sets the mark of the swap slot in which a page at `loc` lies, if it lies in one.
 #[tactic(auto, using(crate::proofs::MarkLaws::marked_nothing))]
 fn mark_slot(marks: &mut Vec<bool>, loc: Loc)
     ensures { AreMarked marks.old.items (option_to_list (places.slot_of loc)) marks.new.items }
@@ -72,7 +72,7 @@ fn mark_slot(marks: &mut Vec<bool>, loc: Loc)
     }
 }
 
-/// Sets the mark of each slot in a page table.
+/// Sets the mark of each swap slot in the page table `table`.
 fn mark_slots(marks: &mut Vec<bool>, table: &[Loc])
     ensures { AreMarked marks.old.items (filter_map places.slot_of table.now) marks.new.items }
 {
@@ -81,7 +81,7 @@ fn mark_slots(marks: &mut Vec<bool>, table: &[Loc])
     }
 }
 
-/// Sets the marks of the frames of live buffers.
+/// Sets the marks of the frames of the live buffers among `buffers`.
 fn mark_live_frames(marks: &mut Vec<bool>, buffers: &[Option<Buffer>])
     ensures { AreMarked marks.old.items (flat_map frames_of_slot buffers.now) marks.new.items }
 {
@@ -92,7 +92,7 @@ fn mark_live_frames(marks: &mut Vec<bool>, buffers: &[Option<Buffer>])
     }
 }
 
-/// Sets the marks of the slots of live buffers.
+/// Sets the marks of the swap slots of the live buffers among `buffers`.
 fn mark_live_slots(marks: &mut Vec<bool>, buffers: &[Option<Buffer>])
     ensures { AreMarked marks.old.items (flat_map slots_of_slot buffers.now) marks.new.items }
 {
@@ -103,7 +103,7 @@ fn mark_live_slots(marks: &mut Vec<bool>, buffers: &[Option<Buffer>])
     }
 }
 
-/// Sets the marks of the frames of ghosts.
+/// Sets the marks of the frames of `ghosts`.
 fn mark_ghost_frames(marks: &mut Vec<bool>, ghosts: &[Ghost])
     ensures { AreMarked marks.old.items (flat_map (λ g. g.frames) ghosts.now) marks.new.items }
 {
@@ -112,7 +112,7 @@ fn mark_ghost_frames(marks: &mut Vec<bool>, ghosts: &[Ghost])
     }
 }
 
-/// Marks for the swap slots that are held.
+/// Returns marks for the swap slots, set where a slot is held.
 fn slot_marks(alloc: Global, script: &Script, core: &Core) -> Result<Vec<bool>, NoMemory>
     ensures small { IfOk result (λ marks. length marks.items < 2 ^ 32) }
     ensures marked { IfOk result (λ marks. AreMarked (replicate script.now.sizes.swap false) (words.held_slots core.now) marks.items) }
@@ -122,7 +122,7 @@ fn slot_marks(alloc: Global, script: &Script, core: &Core) -> Result<Vec<bool>, 
     Ok(marks)
 }
 
-/// Whether each of 64 marks from `start` on is set.
+/// Returns whether all of the 64 marks from `start` on are set.
 fn are_set(marks: &[bool], start: usize) -> bool
     requires { start + 64 ≤ length marks.now }
     ensures { result ≡ true → (n : ℕ) → start ≤ n → n < start + 64 → slice_index_or marks.now n false ≡ true }
@@ -134,7 +134,7 @@ fn are_set(marks: &[bool], start: usize) -> bool
     all
 }
 
-/// Marks at the front that are all set, to a multiple of how many are looked at at once.
+/// Returns a number of marks at the front that are all set, a multiple of how many are looked at at once.
 fn set_front(marks: &[bool]) -> usize
     ensures within { result ≤ length marks.now }
     ensures set { (n : ℕ) → n < result → slice_index_or marks.now n false ≡ true }
@@ -146,7 +146,7 @@ fn set_front(marks: &[bool]) -> usize
     front
 }
 
-/// The lowest number whose mark isn't set.
+/// Returns the lowest number whose mark isn't set, or `None` if all are set.
 fn lowest_unmarked(marks: &[bool]) -> Option<u32>
     requires { length marks.now < 2 ^ 32 }
     ensures { result ≡ find (λ n. not (slice_index_or marks.now n false)) (count_from 1 (length marks.now) 0) }
@@ -159,7 +159,7 @@ fn lowest_unmarked(marks: &[bool]) -> Option<u32>
     None
 }
 
-/// How many marks aren't set.
+/// Counts the marks that aren't set.
 #[tactic(auto, using(crate::proofs::CountLaws::count_more))]
 fn count_unmarked(marks: &[bool]) -> u64
     ensures { result ≡ length (filter (λ n. not (slice_index_or marks.now n false)) (count_from 1 (length marks.now) 0)) }
@@ -190,7 +190,7 @@ impl Model for FrameMarks {
 }
 
 impl FrameMarks {
-    /// The marks of a state. It goes over each page table.
+    /// Marks the held frames of a state. It goes over each page table.
     pub fn new(alloc: Global, script: &Script, core: &Core) -> Result<FrameMarks, NoMemory>
         ensures { IfOk result (AreFrames script.now core.now) }
     {
@@ -200,14 +200,14 @@ impl FrameMarks {
         Ok(FrameMarks { marks })
     }
 
-    /// The lowest free frame.
+    /// Returns the lowest free frame, or `None` if no frame is free.
     pub fn lowest(&self) -> Option<u32>
         ensures { (script : Script) (core : Core) → AreFrames script core self.now → result ≡ words.free_frame script core }
     {
         lowest_unmarked(&self.marks)
     }
 
-    /// Sets the mark of a frame.
+    /// Sets the mark of `frame`.
     pub fn mark(&mut self, frame: u32)
         ensures { AreMarked self.old (frame ∷ []) self.new }
     {
@@ -215,7 +215,7 @@ impl FrameMarks {
     }
 }
 
-/// The lowest free frame.
+/// Returns the lowest free frame, or `None` if no frame is free.
 pub fn free_frame(alloc: Global, script: &Script, core: &Core) -> Result<Option<u32>, NoMemory>
     ensures { IfOk result (λ frame. frame ≡ words.free_frame script.now core.now) }
 {
@@ -223,7 +223,7 @@ pub fn free_frame(alloc: Global, script: &Script, core: &Core) -> Result<Option<
     Ok(marks.lowest())
 }
 
-/// The lowest free swap slot.
+/// Returns the lowest free swap slot, or `None` if no slot is free.
 pub fn free_slot(alloc: Global, script: &Script, core: &Core) -> Result<Option<u32>, NoMemory>
     ensures { IfOk result (λ slot. slot ≡ words.free_slot script.now core.now) }
 {
@@ -231,7 +231,7 @@ pub fn free_slot(alloc: Global, script: &Script, core: &Core) -> Result<Option<u
     Ok(lowest_unmarked(&marks))
 }
 
-/// How many frames are free.
+/// Counts the free frames.
 pub fn count_free_frames(alloc: Global, script: &Script, core: &Core) -> Result<u64, NoMemory>
     ensures { IfOk result (λ count. count ≡ count_free (words.held_frames core.now) script.now.sizes.frames) }
 {
@@ -239,7 +239,7 @@ pub fn count_free_frames(alloc: Global, script: &Script, core: &Core) -> Result<
     Ok(count_unmarked(&frames.marks))
 }
 
-/// How many swap slots are free.
+/// Counts the free swap slots.
 pub fn count_free_slots(alloc: Global, script: &Script, core: &Core) -> Result<u64, NoMemory>
     ensures { IfOk result (λ count. count ≡ count_free (words.held_slots core.now) script.now.sizes.swap) }
 {

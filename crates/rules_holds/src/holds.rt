@@ -10,7 +10,7 @@ use rules_state::target_spans;
 use std::alloc::Global;
 use ttm_base::{Mem, NoMemory, Span, Spans};
 
-/// The spans that a buffer has in a memory type.
+/// Returns the spans that `buffer` has in the memory type `mem`, none if it is in another.
 pub fn spans_in(mem: Mem, buffer: &Buffer) -> &[Span]
     ensures { result.now ≡ words.spans_in mem buffer.now }
 {
@@ -21,7 +21,7 @@ pub fn spans_in(mem: Mem, buffer: &Buffer) -> &[Span]
     }
 }
 
-/// The spans of a ghost in a memory type.
+/// Returns the spans that the ghost `left` has in the memory type `mem`.
 pub fn ghost_spans(mem: Mem, left: &Ghost) -> &[Span]
     ensures { result.now ≡ words.ghost_spans mem left.now }
 {
@@ -32,7 +32,7 @@ pub fn ghost_spans(mem: Mem, left: &Ghost) -> &[Span]
     }
 }
 
-/// The spans that live buffers hold in a memory type, each with those of its target.
+/// Returns the spans that live buffers hold in the memory type `mem`, for each buffer those of its target after its own.
 fn live_spans(alloc: Global, mem: Mem, buffers: &[Option<Buffer>]) -> Result<Spans, NoMemory>
     ensures { IfOk result (λ spans. spans ≡ flat_map (spans_of_slot mem) buffers.now) }
 {
@@ -46,7 +46,7 @@ fn live_spans(alloc: Global, mem: Mem, buffers: &[Option<Buffer>]) -> Result<Spa
     Ok(spans)
 }
 
-/// Puts the spans of ghosts in a memory type after others.
+/// Appends the spans that `ghosts` hold in the memory type `mem` to `spans`.
 fn push_ghosts(spans: &mut Spans, mem: Mem, ghosts: &[Ghost]) -> Result<(), NoMemory>
     ensures { OnOk result (spans.new ≡ spans.old ++ flat_map (words.ghost_spans mem) ghosts.now) }
 {
@@ -56,7 +56,7 @@ fn push_ghosts(spans: &mut Spans, mem: Mem, ghosts: &[Ghost]) -> Result<(), NoMe
     Ok(())
 }
 
-/// All spans of a memory type that buffers, targets and ghosts hold.
+/// Returns all spans of the memory type `mem` that buffers, targets and ghosts hold.
 #[tactic(auto, using(crate::proofs::HeldLaws::held_spans_of))]
 pub fn held_spans(alloc: Global, mem: Mem, core: &Core) -> Result<Spans, NoMemory>
     ensures { IfOk result (λ spans. spans ≡ words.held_spans mem core.now) }
@@ -66,21 +66,21 @@ pub fn held_spans(alloc: Global, mem: Mem, core: &Core) -> Result<Spans, NoMemor
     Ok(spans)
 }
 
-/// A span has the page.
+/// Returns whether `span` has the page `page`.
 pub fn has_page(page: u32, span: Span) -> bool
     ensures { result ≡ pages.has_page page span }
 {
     span.start <= page && page < span.end
 }
 
-/// Some span has the page.
+/// Returns whether some span of `held` has the page `page`.
 fn is_held(held: &[Span], page: u32) -> bool
     ensures { result ≡ list_any (pages.has_page page) held.now }
 {
     held.iter().any(|s| has_page(page, *s))
 }
 
-/// No span has the page.
+/// Returns whether no span of `held` has the page `page`.
 pub fn is_free_beside(held: &[Span], page: u32) -> bool
     ensures { result ≡ pages.is_free_beside held.now page }
 {

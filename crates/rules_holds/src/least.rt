@@ -14,7 +14,7 @@ pub struct Least {
     by_context: [u64; CONTEXTS],
 }
 
-/// Makes the number of a job the least of its context, unless there is a lesser one, or the job is done.
+/// Makes the number of `job` the least of its context, unless there is a lesser one or the job is done.
 fn lower(least: &mut [u64; CONTEXTS], job: &Job)
     ensures new { is_counted least.new job.now ≡ true }
     ensures others { (i : JobId) → is_from least.old i ≡ true → is_from least.new i ≡ true }
@@ -25,7 +25,7 @@ fn lower(least: &mut [u64; CONTEXTS], job: &Job)
     }
 }
 
-/// The least numbers of those of these jobs that aren't done.
+/// Returns for each context the least number of those of `jobs` that aren't done.
 fn least_numbers(jobs: &[Job]) -> [u64; CONTEXTS]
     ensures { list_all (is_counted result) jobs.now ≡ true }
 {
@@ -37,7 +37,7 @@ fn least_numbers(jobs: &[Job]) -> [u64; CONTEXTS]
 }
 
 impl Least {
-    /// Those of the pending jobs.
+    /// Returns the least numbers of the pending jobs of `core`.
     fn of(core: &Core) -> Least
         ensures { AreLeast core.now result.by_context }
     {
@@ -46,7 +46,7 @@ impl Least {
         }
     }
 
-    /// That of a context; of one that has none, 0.
+    /// Returns the least number of the context `ctx`, 0 for a context that has none.
     fn below(self, core: &Core, ctx: u32) -> u64
         requires { AreLeast core.now self.by_context }
         ensures { IsLeast core.now ctx result }
@@ -60,8 +60,8 @@ impl Least {
     }
 }
 
-/// A look for jobs that aren't done: the least numbers, once they were asked for, since all pending jobs are gone over for them; and the
-/// place after the job that was found last.
+/// A look for jobs that aren't done: the least numbers, once they were asked for, since they take a pass over all pending jobs; and the
+/// position after the job that was found last.
 #[derive(Drop)]
 pub struct Look {
     least: Option<Least>,
@@ -69,7 +69,7 @@ pub struct Look {
 }
 
 impl Look {
-    /// The beginning of one.
+    /// Begins a look for jobs: no least number is known, and the place is the first.
     pub fn new() -> Look
         ensures { (c : Core) → IsLook c result }
     {
@@ -79,7 +79,7 @@ impl Look {
         }
     }
 
-    /// A number below which no job of the context is unfinished.
+    /// Returns a number below which no job of the context `ctx` is unfinished.
     pub fn least_of(&mut self, core: &Core, ctx: u32) -> u64
         requires { IsLook core.now self.old }
         ensures look { IsLook core.now self.new }

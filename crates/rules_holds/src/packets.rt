@@ -9,7 +9,7 @@ use rules_state::{live_in, packet_place};
 use std::alloc::Global;
 use ttm_base::{BufId, NoMemory, Op, PagePlace};
 
-/// The names of pages as the buffers stand.
+/// The names of pages as the buffers stand in a state.
 #[derive(Drop)]
 struct Standing<'a> {
     core: &'a Core,
@@ -26,7 +26,7 @@ impl PageNames for Standing<'_> {
     }
 }
 
-/// The packets of a job, in order: its operations, cut at every page border of their buffers, as the buffers stand.
+/// Returns the packets of a job, in order: its operations `ops`, cut at every page border of their buffers, as the buffers stand in `core`.
 pub fn packets_of(alloc: Global, core: &Core, ops: &[Op]) -> Result<Packets, NoMemory>
     ensures { IfOk result (λ packets. packets ≡ words.packets_of (λ b. places.packet_place (states.buffer_in core.now b)) ops.now) }
 {

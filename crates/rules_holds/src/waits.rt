@@ -15,21 +15,21 @@ use state_words::is_written;
 use std::alloc::Global;
 use ttm_base::{BufId, JobId, Mem, NoMemory, Op, Usage};
 
-/// One of these jobs has the name and isn't done.
+/// Returns whether one of `jobs` has the name `i` and isn't done.
 fn has_unfinished(jobs: &[Job], i: JobId) -> bool
     ensures { result ≡ is_open jobs.now i }
 {
     jobs.iter().any(|j| same_job(i, j.id) && !j.finished)
 }
 
-/// The position of the first of these jobs that has the name and isn't done.
+/// Returns the position of the first of `jobs` that has the name `i` and isn't done, or `None` if there is none.
 fn place_of(jobs: &[Job], i: JobId) -> Option<usize>
     ensures { result ≡ position (λ j. same_job i j.id && not j.finished) jobs.now }
 {
     jobs.iter().position(|j| same_job(i, j.id) && !j.finished)
 }
 
-/// The job at this position has the name and isn't done.
+/// Returns whether the job at position `at` has the name `i` and isn't done.
 fn is_unfinished_at(jobs: &[Job], at: usize, i: JobId) -> bool
     ensures { IsTrue result → IsTrue (is_open jobs.now i) }
 {
@@ -39,8 +39,8 @@ fn is_unfinished_at(jobs: &[Job], at: usize, i: JobId) -> bool
     }
 }
 
-/// One of these jobs has the name and isn't done. It is looked for from the place to the end, then before the place, which is left
-/// after the job that is found: who looks for jobs in the order in which they stand finds each at once.
+/// Returns whether one of `jobs` has the name `i` and isn't done. It is looked for from `place` to the end, then before `place`, which is
+/// left after the job that is found: a caller that looks for jobs in the order in which they stand finds each at once.
 #[tactic(auto, using(crate::proofs::OpenJobs::found))]
 fn has_unfinished_near(jobs: &[Job], place: &mut usize, i: JobId) -> bool
     ensures { result ≡ is_open jobs.now i }
@@ -58,8 +58,8 @@ fn has_unfinished_near(jobs: &[Job], place: &mut usize, i: JobId) -> bool
     false
 }
 
-/// The job isn't done. Where the numbers of the pending jobs follow one another, it stands where it is looked for first; else it is
-/// looked for at the place.
+/// Returns whether job `i` isn't done. Where the numbers of the pending jobs follow one another, it stands where it is looked for first;
+/// else it is looked for at `place`. No job of its context below `least` is unfinished.
 fn is_open(core: &Core, least: u64, place: &mut usize, i: JobId) -> bool
     requires { IsLeast core.now i.ctx least }
     ensures { result ≡ words.is_unfinished core.now i }
@@ -71,14 +71,15 @@ fn is_open(core: &Core, least: u64, place: &mut usize, i: JobId) -> bool
     is_unfinished_at(pending, (i.num - least) as usize, i) || has_unfinished_near(pending, place, i)
 }
 
-/// The job isn't done.
+/// Returns whether job `i` isn't done.
 pub fn is_unfinished(core: &Core, i: JobId) -> bool
     ensures { result ≡ words.is_unfinished core.now i }
 {
     has_unfinished(core.jobs.pending(), i)
 }
 
-/// The one of a job and those before it that is named: in the lesser context, or of one context the greater number.
+/// Returns the job to name of `named` and the job `i` after it: the one in the lesser context, or of one context the one with the greater
+/// number.
 fn named_last(named: Option<JobId>, i: JobId) -> JobId
     ensures { result ≡ named_last named i }
 {
@@ -88,7 +89,7 @@ fn named_last(named: Option<JobId>, i: JobId) -> JobId
     }
 }
 
-/// The one that is named of those before them and of these.
+/// Returns the job to name of `named`, named among earlier jobs, and `last`, named among later ones.
 fn named_of(named: Option<JobId>, last: Option<JobId>) -> Option<JobId>
     ensures { result ≡ named_of named last }
 {
@@ -98,7 +99,7 @@ fn named_of(named: Option<JobId>, last: Option<JobId>) -> Option<JobId>
     }
 }
 
-/// All of the run's jobs are of the row.
+/// Returns whether all jobs of `run` are among those of `row`.
 fn is_within(run: JobRun, row: JobRun) -> bool
     ensures { IsTrue result → (run.ctx ≡ row.ctx) × (row.first ≤ run.first) × (run.first + run.count ≤ row.first + row.count) }
 {
@@ -108,14 +109,14 @@ fn is_within(run: JobRun, row: JobRun) -> bool
         && run.count <= row.count - (run.first - row.first)
 }
 
-/// All of the run's jobs are of the last ones, none of which is done.
+/// Returns whether all jobs of `run` are in the last row of jobs, none of which is done.
 fn are_last(core: &Core, run: JobRun) -> bool
     ensures { IsTrue result → words.unfinished core.now (jobs_of_run run) ≡ jobs_of_run run }
 {
     run.count == 0 || is_within(run, core.jobs.row())
 }
 
-/// The run without its first `count` jobs; it has more than these.
+/// Returns `run` without its first `count` jobs. It has more than `count`.
 fn behind(run: JobRun, count: u64) -> JobRun
     requires count { count < run.count }
     requires fits { IsTrue (fits run) }
@@ -128,7 +129,7 @@ fn behind(run: JobRun, count: u64) -> JobRun
     }
 }
 
-/// The last of a run's jobs that isn't done, from a least number on.
+/// Returns the last job of `run` that isn't done, or `None` if all are. No job of its context below `least` is unfinished.
 fn last_open_from(core: &Core, least: u64, place: &mut usize, run: JobRun) -> Option<JobId>
     requires least { IsLeast core.now run.ctx least }
     requires fits { IsTrue (fits run) }
@@ -149,7 +150,7 @@ fn last_open_from(core: &Core, least: u64, place: &mut usize, run: JobRun) -> Op
     None
 }
 
-/// The last of a run's jobs that isn't done: the named one, since their context is the same.
+/// Returns the last job of `run` that isn't done, or `None` if all are: the job to name, since the context of all is the same.
 fn last_open(core: &Core, look: &mut Look, run: JobRun) -> Option<JobId>
     requires look { IsLook core.now look.old }
     requires fits { IsTrue (fits run) }
@@ -170,7 +171,7 @@ fn last_open(core: &Core, look: &mut Look, run: JobRun) -> Option<JobId>
     last_open_from(core, least, &mut look.place, run)
 }
 
-/// The unfinished job to wait for among these.
+/// Returns the unfinished job to wait for among `jobs`, or `None` if all are done.
 pub fn waited_for(core: &Core, jobs: &JobIds) -> Option<JobId>
     ensures { result ≡ words.waited_for core.now jobs.now }
 {
@@ -182,7 +183,7 @@ pub fn waited_for(core: &Core, jobs: &JobIds) -> Option<JobId>
     named
 }
 
-/// Puts those of a run's jobs that aren't done after others, one by one.
+/// Appends those jobs of `run` that aren't done to `jobs`, one by one.
 fn push_each_open(
     jobs: &mut JobIds,
     core: &Core,
@@ -206,8 +207,8 @@ fn push_each_open(
     Ok(())
 }
 
-/// Puts those of a run's jobs that aren't done after others, from a least number on: at once, where all of those that may not be are of
-/// the last jobs.
+/// Appends those jobs of `run` that aren't done to `jobs`. No job of their context below `least` is unfinished. If all jobs of the run from
+/// `least` on are in the last row, it appends them at once.
 fn push_open_from(
     jobs: &mut JobIds,
     core: &Core,
@@ -231,7 +232,7 @@ fn push_open_from(
     }
 }
 
-/// Puts those of a run's jobs that aren't done after others: with no look at the other jobs, where all of them are of the last ones.
+/// Appends those jobs of `run` that aren't done to `jobs`, without a look at the other jobs where all of them are in the last row.
 fn push_open(jobs: &mut JobIds, core: &Core, look: &mut Look, run: JobRun) -> Result<(), NoMemory>
     requires look { IsLook core.now look.old }
     requires fits { IsTrue (fits run) }
@@ -245,14 +246,14 @@ fn push_open(jobs: &mut JobIds, core: &Core, look: &mut Look, run: JobRun) -> Re
     push_open_from(jobs, core, least, &mut look.place, run)
 }
 
-/// What is to come of a buffer.
+/// What is about to be done with a buffer.
 #[derive(Clone, Copy)]
 pub enum Before {
     Write,
     Read,
 }
 
-/// Jobs that use the buffer so must be done before: to read it, not those that only read.
+/// Returns whether jobs that use the buffer with `usage` must be done before: to read it, those that only read needn't be.
 fn counts(before: Before, usage: Usage) -> bool
     ensures { result ≡ counts_by before usage }
 {
@@ -265,7 +266,7 @@ fn counts(before: Before, usage: Usage) -> bool
     }
 }
 
-/// The jobs of these fences that must be done before.
+/// Returns the jobs of the fences `run` that must be done before, an empty run if none must.
 fn jobs_of(before: Before, run: FenceRun) -> JobRun
     ensures jobs { jobs_of_run result ≡ jobs_before before (fences_of_run run) }
     ensures fits { IsTrue (is_whole run) → IsTrue (fits result) }
@@ -281,7 +282,7 @@ fn jobs_of(before: Before, run: FenceRun) -> JobRun
     }
 }
 
-/// Those of the jobs before a buffer is written or read that aren't done.
+/// Returns those jobs that aren't done of the ones that must be done before `buffer` is written or read, as `before` tells.
 fn unfinished_before(
     alloc: Global,
     core: &Core,
@@ -298,7 +299,7 @@ fn unfinished_before(
     Ok(jobs)
 }
 
-/// Those of the jobs before the buffer is written, or moved, that aren't done.
+/// Returns those jobs that aren't done of the ones that must be done before `buffer` is written or moved.
 #[tactic(auto, using(crate::proofs::BeforeLaws::write_is))]
 pub fn unfinished_before_write(
     alloc: Global,
@@ -310,7 +311,7 @@ pub fn unfinished_before_write(
     unfinished_before(alloc, core, buffer, Before::Write)
 }
 
-/// The unfinished job to wait for before a buffer is written or read.
+/// Returns the unfinished job to wait for before `buffer` is written or read, as `before` tells, or `None` if there is none.
 fn waited_before(core: &Core, buffer: &Buffer, before: Before) -> Option<JobId>
     ensures { result ≡ words.waited_for core.now (jobs_before before buffer.now.fences) }
 {
@@ -323,7 +324,7 @@ fn waited_before(core: &Core, buffer: &Buffer, before: Before) -> Option<JobId>
     named
 }
 
-/// The unfinished job to wait for before the buffer is written, or moved. It takes no memory.
+/// Returns the unfinished job to wait for before `buffer` is written or moved, or `None` if there is none. It takes no memory.
 #[tactic(auto, using(crate::proofs::BeforeLaws::write_is))]
 pub fn waited_before_write(core: &Core, buffer: &Buffer) -> Option<JobId>
     ensures { result ≡ words.waited_for core.now (words.jobs_before_write buffer.now) }
@@ -331,7 +332,7 @@ pub fn waited_before_write(core: &Core, buffer: &Buffer) -> Option<JobId>
     waited_before(core, buffer, Before::Write)
 }
 
-/// The unfinished job to wait for before the buffer is read. It takes no memory.
+/// Returns the unfinished job to wait for before `buffer` is read, or `None` if there is none. It takes no memory.
 #[tactic(auto, using(crate::proofs::BeforeLaws::read_is))]
 pub fn waited_before_read(core: &Core, buffer: &Buffer) -> Option<JobId>
     ensures { result ≡ words.waited_for core.now (words.jobs_before_read buffer.now) }
@@ -339,14 +340,15 @@ pub fn waited_before_read(core: &Core, buffer: &Buffer) -> Option<JobId>
     waited_before(core, buffer, Before::Read)
 }
 
-/// All jobs of the buffer are done.
+/// Returns whether all jobs of `buffer` are done.
 pub fn is_idle(core: &Core, buffer: &Buffer) -> bool
     ensures { result ≡ words.is_idle core.now buffer.now }
 {
     waited_before_write(core, buffer).is_none()
 }
 
-/// The unfinished jobs that a job waits for at a buffer: all of one that it writes, those that change one that it only reads.
+/// Returns the unfinished jobs that a job with the operations `ops` waits for at buffer `b`: all jobs of a buffer that it writes, those
+/// that change a buffer that it only reads.
 #[tactic(auto, using(crate::proofs::BeforeLaws::write_is, crate::proofs::BeforeLaws::read_is))]
 pub fn jobs_before_use(alloc: Global, core: &Core, ops: &[Op], b: BufId) -> Result<JobIds, NoMemory>
     ensures { IfOk result (λ jobs. jobs ≡ words.jobs_before_use core.now ops.now b) }

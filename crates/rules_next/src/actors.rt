@@ -22,7 +22,7 @@ use rules_state::{
 use std::alloc::Global;
 use ttm_base::{Actor, BufId, Deny, Need, NoMemory, Stamp};
 
-/// The next stamp.
+/// Returns the entry that draws the next stamp.
 fn next_ticket(state: &State) -> Kind
     requires { state.now.last_stamp + 1 < 2 ^ 64 }
     ensures { result ≡ words.next_ticket state.now }
@@ -32,7 +32,7 @@ fn next_ticket(state: &State) -> Kind
     }
 }
 
-/// The first step of a command.
+/// Returns the first step of `command`.
 fn step_of_start(state: &State, command: &Command) -> Step
     requires { state.now.last_stamp + 1 < 2 ^ 64 }
     ensures { result ≡ words.step_of_start state.now command.now }
@@ -45,7 +45,8 @@ fn step_of_start(state: &State, command: &Command) -> Step
     }
 }
 
-/// A younger thread that holds a buffer backs off from an older one's; any other waits (wait-die).
+/// Returns whether a thread backs off from `holder`: a younger thread that holds a buffer backs off from an older one's; any other waits
+/// (wait-die).
 fn backs_off(course: &Course, holder: Stamp) -> bool
     ensures { result ≡ words.backs_off course.now holder }
 {
@@ -55,7 +56,7 @@ fn backs_off(course: &Course, holder: Stamp) -> bool
     }
 }
 
-/// Reserve a buffer that nobody holds.
+/// Reserves buffer `b` if nobody holds it. Else the thread backs off from `holder` or waits for it.
 fn step_of_holder(course: &Course, b: BufId, holder: Option<Stamp>) -> Step
     ensures { result ≡ words.step_of_holder course.now b holder }
 {
@@ -66,7 +67,7 @@ fn step_of_holder(course: &Course, b: BufId, holder: Option<Stamp>) -> Step
     }
 }
 
-/// Reserving a buffer.
+/// Reserves buffer `b` if it is live, else refuses the command.
 fn step_of_lock(state: &State, course: &Course, b: BufId) -> Step
     ensures { result ≡ words.step_of_lock state.now course.now b }
 {
@@ -83,7 +84,7 @@ fn step_of_lock(state: &State, course: &Course, b: BufId) -> Step
     }
 }
 
-/// A result that shows nothing.
+/// Returns a result that shows nothing.
 fn plain() -> Step
     ensures { result ≡ words.plain }
 {
@@ -92,7 +93,7 @@ fn plain() -> Step
     })
 }
 
-/// A buffer goes; one with unfinished jobs leaves a ghost.
+/// Frees buffer `b`. One with unfinished jobs leaves a ghost.
 fn step_of_free(alloc: Global, script: &Script, state: &State, b: BufId) -> Step
     requires { HasRoom script.now state.now }
     ensures { result ≡ words.step_of_act script.now state.now (command.Free b) }
@@ -106,7 +107,7 @@ fn step_of_free(alloc: Global, script: &Script, state: &State, b: BufId) -> Step
     Ok(Kind::Free { b, g })
 }
 
-/// A page of a buffer is swapped out, or the command is answered.
+/// Swaps out a page of buffer `b`, or answers the command.
 fn step_of_swap(alloc: Global, script: &Script, state: &State, b: BufId) -> Result<Step, NoMemory>
     requires { HasRoom script.now state.now }
     ensures { IfOk result (λ step. step ≡ words.step_of_act script.now state.now (command.SwapOut b)) }
@@ -118,7 +119,7 @@ fn step_of_swap(alloc: Global, script: &Script, state: &State, b: BufId) -> Resu
     }
 }
 
-/// The bytes of a buffer are read; its store fills them in.
+/// Reads the bytes of buffer `b`, which its store fills in, once the jobs that change it are done.
 fn step_of_read(alloc: Global, state: &State, b: BufId) -> Step
     ensures { result ≡ unless_waiting (waited_for state.now.core (jobs_before_read (buffer state.now b))) (kind.Result (shown.Read [])) }
 {
@@ -128,7 +129,7 @@ fn step_of_read(alloc: Global, state: &State, b: BufId) -> Step
     unless_waiting(job, Kind::Result { shown })
 }
 
-/// Where a buffer stands.
+/// Shows where buffer `b` stands.
 fn step_of_find(alloc: Global, state: &State, b: BufId) -> Result<Step, NoMemory>
     ensures { IfOk result (λ step. step ≡ Ok (kind.Result (shown.Find (buffer state.now b).mem (buffer state.now b).spans))) }
 {
@@ -142,7 +143,7 @@ fn step_of_find(alloc: Global, state: &State, b: BufId) -> Result<Step, NoMemory
     Ok(Ok(Kind::Result { shown }))
 }
 
-/// The command itself, once all is held, in place and filled.
+/// Returns the step of `command` itself, once all is held, in place and filled.
 fn step_of_act(
     alloc: Global,
     script: &Script,
@@ -169,7 +170,7 @@ fn step_of_act(
     }
 }
 
-/// The step of each task.
+/// Returns the step of `task`.
 fn step_of_task(
     alloc: Global,
     script: &Script,
@@ -204,7 +205,7 @@ fn step_of_task(
     }
 }
 
-/// A thread's step.
+/// Returns the step of the thread numbered `thread`.
 fn step_of_thread(
     alloc: Global,
     script: &Script,
@@ -228,21 +229,21 @@ fn step_of_thread(
     }
 }
 
-/// The first of these jobs that is of a context and isn't done.
+/// Returns the first of `jobs` that is of the context `ctx` and isn't done.
 fn first_unfinished(jobs: &[Job], ctx: u32) -> Option<&Job>
     ensures { option_copied result ≡ find (λ j. (j.id.ctx == ctx) && not j.finished) jobs.now }
 {
     jobs.iter().find(|j| j.id.ctx == ctx && !j.finished)
 }
 
-/// The job at the head of a context.
+/// Returns the job at the head of the context `ctx`, its first that isn't done, or `None` if all are.
 pub fn head_of(state: &State, ctx: u32) -> Option<&Job>
     ensures { option_copied result ≡ words.head_of state.now ctx }
 {
     first_unfinished(state.core.jobs.pending(), ctx)
 }
 
-/// A job's next packet once all that it waits for is done, and its end.
+/// Returns the next step of `job`: its next packet once all that it waits for is done, and after the last packet its end.
 fn step_of_job(alloc: Global, state: &State, job: &Job) -> Step
     ensures { result ≡ words.step_of_job state.now job.now }
 {
@@ -262,7 +263,7 @@ fn step_of_job(alloc: Global, state: &State, job: &Job) -> Step
     }
 }
 
-/// An engine works on the job at the head of its context.
+/// Returns the step of the engine of the context `ctx`, which works on the job at the head of its context.
 fn step_of_engine(alloc: Global, state: &State, ctx: u32) -> Step
     ensures { result ≡ words.step_of_engine state.now ctx }
 {
@@ -272,7 +273,7 @@ fn step_of_engine(alloc: Global, state: &State, ctx: u32) -> Step
     }
 }
 
-/// The first ghost goes once its jobs are done.
+/// Returns the step of the reaper: the first ghost goes once its jobs are done.
 fn step_of_reaper(state: &State) -> Step
     ensures { result ≡ words.step_of_reaper state.now }
 {
@@ -282,8 +283,8 @@ fn step_of_reaper(state: &State) -> Step
     }
 }
 
-/// The entry that an actor makes next, or what it needs first. The bytes that a read or a probe shows are left empty. The marks are
-/// those of the frames that are held in the state; without them, a step that takes a frame marks them again.
+/// Returns the entry that `who` makes next, or what it needs first. The bytes that a read or a probe shows are left empty. `frames` are
+/// marks for the frames that are held in `state`; without them, a step that takes a frame marks these frames again.
 ///
 /// # Errors
 ///
@@ -306,7 +307,7 @@ pub fn next_with(
     }
 }
 
-/// Gives the entry that an actor makes next, or what it needs first; a step that takes a frame marks the frames that are held.
+/// Returns the entry that `who` makes next, or what it needs first. A step that takes a frame marks the frames that are held.
 ///
 /// # Errors
 ///

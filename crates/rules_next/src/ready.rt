@@ -10,14 +10,14 @@ use rules_state::{
 use std::alloc::Global;
 use ttm_base::{BufId, Mem, NoMemory};
 
-/// Each page has a frame.
+/// Returns whether each page of `buffer` has a frame.
 pub fn has_all_frames(buffer: &Buffer) -> bool
     ensures { result ≡ words.has_all_frames buffer.now }
 {
     buffer.table.items().iter().all(|loc| is_frame(*loc))
 }
 
-/// The buffer stands where its declared placement lets it.
+/// Returns whether buffer `b` stands where its declared placement lets it.
 pub fn is_well_placed(script: &Script, b: BufId, buffer: &Buffer) -> bool
     ensures { result ≡ words.is_well_placed script.now b buffer.now }
 {
@@ -29,7 +29,7 @@ pub fn is_well_placed(script: &Script, b: BufId, buffer: &Buffer) -> bool
     )
 }
 
-/// The buffer stands where the command wants it.
+/// Returns whether buffer `b` stands where `command` wants it.
 pub fn meets(script: &Script, command: &Command, b: BufId, buffer: &Buffer) -> bool
     ensures { result ≡ words.meets script.now command.now b buffer.now }
 {
@@ -41,14 +41,14 @@ pub fn meets(script: &Script, command: &Command, b: BufId, buffer: &Buffer) -> b
     }
 }
 
-/// No target, and it stands where the command wants it.
+/// Returns whether buffer `b` has no target and stands where `command` wants it.
 pub fn is_in_place(script: &Script, command: &Command, b: BufId, buffer: &Buffer) -> bool
     ensures { result ≡ words.is_in_place script.now command.now b buffer.now }
 {
     !has_some_target(buffer) && meets(script, command, b, buffer)
 }
 
-/// In SYSTEM, each page whose bytes the command may read or write has a frame.
+/// Returns whether in SYSTEM each page of `buffer` has a frame, for a command that may read or write its bytes.
 pub fn is_filled(command: &Command, buffer: &Buffer) -> bool
     ensures { result ≡ words.is_filled command.now buffer.now }
 {
@@ -60,7 +60,7 @@ pub fn is_filled(command: &Command, buffer: &Buffer) -> bool
     }
 }
 
-/// In place and filled. The empty buffer stands for one that isn't live.
+/// Returns whether buffer `b` is in place and filled. `dead`, the buffer without pages, stands for one that isn't live.
 fn is_ready(script: &Script, state: &State, command: &Command, b: BufId, dead: &Buffer) -> bool
     requires { dead.now ≡ new_buffer 0 }
     ensures { result ≡ words.is_ready script.now state.now command.now b }
@@ -69,7 +69,7 @@ fn is_ready(script: &Script, state: &State, command: &Command, b: BufId, dead: &
     is_in_place(script, command, b, buffer) && is_filled(command, buffer)
 }
 
-/// The named buffer at work: the first that isn't ready.
+/// Returns the named buffer at work: the first that isn't ready, or `None` if each is.
 pub fn first_unready(
     alloc: Global,
     script: &Script,

@@ -16,7 +16,7 @@ use std::alloc::Global;
 use ttm_base::limits::MAX_PINS;
 use ttm_base::{BufId, Deny, Mem, NoMemory};
 
-/// New and touch take no ticket; each other command begins with one.
+/// Returns whether the command is at its first step. New and touch take no ticket; each other command begins with one.
 pub fn starts(course: &Course, command: &Command) -> bool
     ensures { result ≡ words.starts course.now command.now }
 {
@@ -26,14 +26,14 @@ pub fn starts(course: &Course, command: &Command) -> bool
     }
 }
 
-/// The first of these buffers that isn't held.
+/// Returns the first buffer of `bs` that isn't among `held`.
 fn first_unheld(held: &[BufId], bs: &[BufId]) -> Option<BufId>
     ensures { result ≡ find (λ b. not (has_buffer held.now b)) bs.now }
 {
     bs.iter().copied().find(|b| !has_buffer(held, *b))
 }
 
-/// The next buffer to reserve: that of the last backoff first, then the named ones.
+/// Returns the next buffer to reserve: that of the last backoff first, then the named ones. `None` if all are held.
 pub fn first_missing(
     alloc: Global,
     course: &Course,
@@ -51,7 +51,7 @@ pub fn first_missing(
     Ok(first_unheld(held, bs.items()))
 }
 
-/// Fill first, where a page has no frame.
+/// Returns the task `next`, or first the task to fill buffer `b` where a page has no frame.
 pub fn filled_then(next: Task, b: BufId, buffer: &Buffer) -> Task
     ensures { result ≡ words.filled_then next b buffer.now }
 {
@@ -62,14 +62,14 @@ pub fn filled_then(next: Task, b: BufId, buffer: &Buffer) -> Task
     }
 }
 
-/// Something that a search took can be given back.
+/// Returns whether something that a search took can be given back.
 pub fn gives_back(buffer: &Buffer) -> bool
     ensures { result ≡ words.gives_back buffer.now }
 {
     (same_mem(buffer.mem, Mem::Vram) && has_frame(buffer)) || has_some_target(buffer)
 }
 
-/// A victim that is to leave VRAM: through TT, or it gives back what its search took and is skipped.
+/// Returns the task for a victim that is to leave VRAM: it goes through TT, or it gives back what its search took and is skipped.
 fn task_in_vram(victim: Victim, buffer: &Buffer) -> Task
     ensures { result ≡ words.task_in_vram victim buffer.now }
 {
@@ -90,7 +90,7 @@ fn task_in_vram(victim: Victim, buffer: &Buffer) -> Task
     }
 }
 
-/// The last of these victims.
+/// Returns the last of the victims `caught`.
 #[tactic(auto, using(crate::proofs::LastLaws::last_of_at))]
 fn last_caught(caught: &[Victim]) -> Option<Victim>
     ensures { result ≡ last_of caught.now }
@@ -98,7 +98,7 @@ fn last_caught(caught: &[Victim]) -> Option<Victim>
     caught.last().copied()
 }
 
-/// What is to be done with the last victim that was caught.
+/// Returns what is to be done with the last victim that was caught.
 fn task_of_victim(victim: Victim, buffer: &Buffer) -> Task
     ensures { result ≡ words.task_of_victim victim buffer.now }
 {
@@ -117,7 +117,7 @@ fn task_of_victim(victim: Victim, buffer: &Buffer) -> Task
     }
 }
 
-/// What the command may not ask of its buffer.
+/// Returns why `command` is denied for the pins of its buffer, or `None` if it isn't.
 pub fn forbidden(state: &State, command: &Command) -> Option<Deny>
     ensures { result ≡ words.forbidden state.now command.now }
 {
@@ -133,7 +133,7 @@ pub fn forbidden(state: &State, command: &Command) -> Option<Deny>
     }
 }
 
-/// A search failed: the buffer at work gives back what it took, and the command is refused.
+/// Returns the task after a search failed: the buffer at work gives back what it took, and the command is refused with `deny`.
 fn task_of_failed(
     alloc: Global,
     script: &Script,
@@ -151,7 +151,7 @@ fn task_of_failed(
     }
 }
 
-/// How a buffer with targets goes on, by where it stands.
+/// Returns how buffer `b`, which has targets, goes on, by where it stands.
 fn carried(b: BufId, buffer: &Buffer) -> Task
     ensures { result ≡ words.carried buffer.now.mem b buffer.now }
 {
@@ -188,7 +188,7 @@ fn carried(b: BufId, buffer: &Buffer) -> Task
     }
 }
 
-/// A buffer that isn't in place.
+/// Returns the task for buffer `b`, which isn't in place.
 fn task_of_misplaced(b: BufId, reservation: Reservation, buffer: &Buffer) -> Task
     ensures { result ≡ words.task_of_misplaced b reservation buffer.now }
 {
@@ -204,7 +204,7 @@ fn task_of_misplaced(b: BufId, reservation: Reservation, buffer: &Buffer) -> Tas
     }
 }
 
-/// The named buffer at work. The empty buffer stands for one that isn't live.
+/// Returns the task for the named buffer at work. `dead`, the buffer without pages, stands for one that isn't live.
 fn task_of_unready(
     script: &Script,
     state: &State,
@@ -223,7 +223,7 @@ fn task_of_unready(
     }
 }
 
-/// What is left once each buffer is held and no victim is caught.
+/// Returns what is left to do once each buffer is held and no victim is caught.
 fn task_of_held(
     alloc: Global,
     script: &Script,
@@ -247,7 +247,7 @@ fn task_of_held(
     }
 }
 
-/// The rules in their order.
+/// Returns the task of `command`: the rules in their order.
 pub fn task_of_command(
     alloc: Global,
     script: &Script,

@@ -24,7 +24,7 @@ abbrev pub is_short : Option Buffer → Bool
 is_short None = true
 is_short (Some x) = nat_le (length x.table) (2 ^ 32)
 
--- the same as a test
+-- the test whether a script and a state have room
 abbrev pub tests_room : Script → State → Bool
 tests_room script s =
     list_all (λ d. nat_le d.pages 65536) script.buffers && nat_lt (length script.threads) (2 ^ 32)

@@ -11,21 +11,21 @@ use rules_state::{
 use std::alloc::Global;
 use ttm_base::{BufId, Mem, NoMemory, Place};
 
-/// The place has as many pages as the buffer.
+/// Returns whether `place` has as many pages as buffer `b`.
 pub fn is_long_enough(script: &Script, b: BufId, place: Place) -> bool
     ensures { result ≡ words.is_long_enough script.now b place }
 {
     declared_pages(script, b) <= length_of(reach_of(script, place))
 }
 
-/// The buffer is neither pinned nor reserved.
+/// Returns whether a buffer is neither pinned nor reserved.
 pub fn is_loose(reservation: Reservation) -> bool
     ensures { result ≡ words.is_loose reservation }
 {
     reservation.pins == 0 && reservation.holder.is_none()
 }
 
-/// The buffer stands in the place, is neither pinned nor held, and wasn't skipped.
+/// Returns whether buffer `b` stands in `place`, is neither pinned nor held, and wasn't skipped.
 pub fn is_evictable(script: &Script, state: &State, skips: &[BufId], place: Place, b: BufId) -> bool
     ensures { result ≡ words.is_evictable script.now state.now skips.now place b }
 {
@@ -40,7 +40,7 @@ pub fn is_evictable(script: &Script, state: &State, skips: &[BufId], place: Plac
     }
 }
 
-/// The first evictable buffer, in eviction order.
+/// Returns the first evictable buffer, in eviction order, or `None` if there is none.
 pub fn victim(
     alloc: Global,
     script: &Script,
@@ -59,7 +59,7 @@ pub fn victim(
     Ok(found)
 }
 
-/// The first ghost that holds a page that the place reaches.
+/// Returns the first ghost that holds a page that `place` reaches, or `None` if there is none.
 pub fn ghost_in<'a>(script: &Script, state: &'a State, place: Place) -> Option<&'a Ghost>
     ensures { option_copied result ≡ words.ghost_in script.now state.now place }
 {
@@ -72,14 +72,14 @@ pub fn ghost_in<'a>(script: &Script, state: &'a State, place: Place) -> Option<&
         .find(|g| intersects(ghost_spans(place.mem, g), reach))
 }
 
-/// The buffer has a frame.
+/// Returns whether `buffer` has a frame.
 pub fn has_frame(buffer: &Buffer) -> bool
     ensures { result ≡ words.has_frame buffer.now }
 {
     buffer.table.items().iter().any(|loc| is_frame(*loc))
 }
 
-/// A buffer that may give its frames to swap.
+/// Returns whether buffer `b` may give its frames to swap.
 fn is_swappable(state: &State, b: BufId) -> bool
     ensures { result ≡ (words.is_loose (reservation state.now b) && words.has_frame (buffer state.now b)) }
 {
@@ -90,7 +90,7 @@ fn is_swappable(state: &State, b: BufId) -> bool
     }
 }
 
-/// The first buffer that may give its frames to swap: in SYSTEM by priority, then in TT.
+/// Returns the first buffer that may give its frames to swap: in SYSTEM by priority, then in TT. `None` if there is none.
 pub fn swap_victim(alloc: Global, state: &State) -> Result<Option<BufId>, NoMemory>
     ensures { IfOk result (λ found. found ≡ words.swap_victim state.now) }
 {
@@ -101,7 +101,7 @@ pub fn swap_victim(alloc: Global, state: &State) -> Result<Option<BufId>, NoMemo
     Ok(found)
 }
 
-/// The first ghost that holds a frame.
+/// Returns the first ghost that holds a frame, or `None` if there is none.
 pub fn ghost_with_frame(state: &State) -> Option<&Ghost>
     ensures { option_copied result ≡ words.ghost_with_frame state.now }
 {
@@ -113,7 +113,7 @@ pub fn ghost_with_frame(state: &State) -> Option<&Ghost>
         .find(|g| g.frames.len() > 0)
 }
 
-/// Why a buffer can't be evicted: the first cause that holds.
+/// Returns why a buffer can't be evicted: the first cause that holds.
 pub fn cause_of(script: &Script, place: Place, reservation: Reservation, buffer: &Buffer) -> Cause
     ensures { result ≡ words.cause_of script.now place reservation buffer.now }
 {
@@ -132,7 +132,7 @@ pub fn cause_of(script: &Script, place: Place, reservation: Reservation, buffer:
     }
 }
 
-/// The cause of a declared buffer, where it is live and has its resource or a target in the place's manager.
+/// Returns the cause of the declared buffer `b`, if it is live and has its resource or a target in the place's manager.
 fn row_of(
     script: &Script,
     reservations: &[Reservation],
@@ -153,7 +153,7 @@ fn row_of(
     }
 }
 
-/// Each live buffer with its resource or a target in the place's manager, in declared order, with the cause.
+/// Lists each live buffer with its resource or a target in the place's manager, in declared order, with the cause why it can't be evicted.
 pub fn causes(
     alloc: Global,
     script: &Script,

@@ -16,7 +16,7 @@ use rules_state::{buffer_in, dead_buffer, has_target, is_caught, is_frame, loc_o
 use std::alloc::Global;
 use ttm_base::{BufId, JobId, Loc, Mem, Need, NoMemory};
 
-/// The entry, unless a job is waited for.
+/// Returns the entry `kind`, unless `job` is waited for.
 pub fn unless_waiting(job: Option<JobId>, kind: Kind) -> Step
     ensures { result ≡ words.unless_waiting job kind }
 {
@@ -26,7 +26,7 @@ pub fn unless_waiting(job: Option<JobId>, kind: Kind) -> Step
     }
 }
 
-/// The entry, unless a job of the buffer isn't done.
+/// Returns the entry `kind`, unless a job of buffer `b` isn't done.
 pub fn once_idle(alloc: Global, core: &Core, b: BufId, kind: Kind) -> Step
     ensures { result ≡ words.once_idle core.now b kind }
 {
@@ -35,7 +35,7 @@ pub fn once_idle(alloc: Global, core: &Core, b: BufId, kind: Kind) -> Step
     unless_waiting(job, kind)
 }
 
-/// The position of the first page without a frame.
+/// Returns the position of the first page without a frame, or `None` if each page has one.
 fn first_empty(table: &[Loc]) -> Option<usize>
     ensures value { result ≡ position (λ l. not (is_frame l)) table.now }
     ensures bound { IfSome result (λ page. page < length table.now) }
@@ -43,7 +43,7 @@ fn first_empty(table: &[Loc]) -> Option<usize>
     table.iter().position(|loc| !is_frame(*loc))
 }
 
-/// The first page without a frame, or page 0.
+/// Returns the first page of `buffer` without a frame, or page 0.
 fn page_to_fill(buffer: &Buffer) -> u32
     requires { length buffer.now.table ≤ 2 ^ 32 }
     ensures { result ≡ words.page_to_fill buffer.now }
@@ -54,7 +54,8 @@ fn page_to_fill(buffer: &Buffer) -> u32
     }
 }
 
-/// A victim for swap, where a slot is free; else a ghost will give a frame, or there is none.
+/// Returns the step of a buffer for which no frame is free: it catches a victim for swap, where a slot is free; else a ghost will give a
+/// frame, or there is none.
 fn step_without_frame(
     alloc: Global,
     script: &Script,
@@ -77,7 +78,7 @@ fn step_without_frame(
     }
 }
 
-/// The next page without a frame gets one: a fresh page, or one that comes back from swap.
+/// Returns the entry that gives the next page without a frame `frame`: a fresh page, or one that comes back from swap.
 fn filled_with(alloc: Global, core: &Core, b: BufId, frame: u32) -> Kind
     requires { length (states.buffer_in core.now b).table ≤ 2 ^ 32 }
     ensures { result ≡ words.filled_by b (words.page_to_fill (states.buffer_in core.now b)) frame (loc_of (states.buffer_in core.now b) (words.page_to_fill (states.buffer_in core.now b))) }
@@ -96,7 +97,7 @@ fn filled_with(alloc: Global, core: &Core, b: BufId, frame: u32) -> Kind
     }
 }
 
-/// The lowest free frame, by its marks where there are some.
+/// Returns the lowest free frame, by `frames`, its marks, where there are some, or `None` if no frame is free.
 fn frame_to_give(
     alloc: Global,
     script: &Script,
@@ -112,8 +113,8 @@ fn frame_to_give(
     }
 }
 
-/// The next page with the lowest free frame; without one, a victim for swap. The frames that are held are marked again where no marks
-/// are given.
+/// Gives the next page the lowest free frame, or without one catches a victim for swap. The frames that are held are marked again where no
+/// marks are given.
 pub fn step_of_fill(
     alloc: Global,
     script: &Script,
@@ -131,7 +132,7 @@ pub fn step_of_fill(
     }
 }
 
-/// The position of the first page with a frame.
+/// Returns the position of the first page with a frame, or `None` if none has one.
 fn first_frame(table: &[Loc]) -> Option<usize>
     ensures value { result ≡ position is_frame table.now }
     ensures bound { IfSome result (λ page. page < length table.now) }
@@ -139,7 +140,7 @@ fn first_frame(table: &[Loc]) -> Option<usize>
     table.iter().position(|loc| is_frame(*loc))
 }
 
-/// The first page with a frame, or page 0.
+/// Returns the first page of `buffer` with a frame, or page 0.
 fn first_frame_page(buffer: &Buffer) -> u32
     requires { length buffer.now.table ≤ 2 ^ 32 }
     ensures { result ≡ words.first_frame_page buffer.now }
@@ -150,7 +151,7 @@ fn first_frame_page(buffer: &Buffer) -> u32
     }
 }
 
-/// What comes of the wish to swap a page of a buffer out.
+/// What comes of the wish to swap out a page of a buffer.
 #[derive(Drop)]
 pub enum Swap {
     NoFrame,
@@ -158,7 +159,7 @@ pub enum Swap {
     Page(Step),
 }
 
-/// The next page to swap out, if the buffer has a frame.
+/// Returns the next page of buffer `b` to swap out, if the buffer has a frame.
 fn page_to_swap(alloc: Global, core: &Core, b: BufId) -> Option<u32>
     requires { length (states.buffer_in core.now b).table ≤ 2 ^ 32 }
     ensures { result ≡ (if has_frame (states.buffer_in core.now b) then Some (words.first_frame_page (states.buffer_in core.now b)) else None) }
@@ -172,7 +173,7 @@ fn page_to_swap(alloc: Global, core: &Core, b: BufId) -> Option<u32>
     }
 }
 
-/// The buffer's next page to swap out, if it has a frame and a slot is free.
+/// Swaps out the next page of buffer `b`, if it has a frame and a slot is free.
 pub fn swap_out(alloc: Global, script: &Script, state: &State, b: BufId) -> Result<Swap, NoMemory>
     requires { HasRoom script.now state.now }
     ensures { IfOk result (IsSwap script.now state.now b) }
@@ -189,14 +190,14 @@ pub fn swap_out(alloc: Global, script: &Script, state: &State, b: BufId) -> Resu
     }
 }
 
-/// The victim of this buffer, if it is caught.
+/// Returns the victim among `caught` that is buffer `b`, or `None` if it isn't caught.
 fn victim_of(caught: &[Victim], b: BufId) -> Option<Victim>
     ensures { result ≡ find (λ v. states.same_buffer b v.b) caught.now }
 {
     caught.iter().copied().find(|v| same_buffer(b, v.b))
 }
 
-/// For what the victim was caught.
+/// Returns for what buffer `b` was caught, or `None` if it wasn't.
 fn why_caught(course: &Course, b: BufId) -> Option<Why>
     ensures { result ≡ words.why_caught course.now b }
 {
@@ -206,7 +207,7 @@ fn why_caught(course: &Course, b: BufId) -> Option<Why>
     }
 }
 
-/// A victim is emptied as far as can be, and let go.
+/// Empties the victim `b` as far as can be, and lets it go.
 pub fn step_of_empty(
     alloc: Global,
     script: &Script,
@@ -226,7 +227,7 @@ pub fn step_of_empty(
     }
 }
 
-/// The number of the context's next job.
+/// Returns the number of the next job of the context `ctx`.
 pub fn next_job(state: &State, ctx: u32) -> u64
     requires { words.next_job state.now ctx < 2 ^ 64 }
     ensures { result ≡ words.next_job state.now ctx }
@@ -237,7 +238,7 @@ pub fn next_job(state: &State, ctx: u32) -> u64
     }
 }
 
-/// The number of the next ghost.
+/// Returns the number of the next ghost.
 pub fn next_ghost(state: &State) -> u64
     requires { state.now.last_ghost + 1 < 2 ^ 64 }
     ensures { result ≡ words.next_ghost state.now }
@@ -245,7 +246,7 @@ pub fn next_ghost(state: &State) -> u64
     state.last_ghost + 1
 }
 
-/// A victim's pages in VRAM are free at once; others stay with a ghost.
+/// Moves buffer `b` to the memory type `mem`: a victim's old pages in VRAM are free at once; others stay with a ghost.
 pub fn step_of_move(script: &Script, state: &State, course: &Course, b: BufId, mem: Mem) -> Step
     requires { HasRoom script.now state.now }
     ensures { result ≡ words.step_of_move state.now course.now b mem }
@@ -263,7 +264,7 @@ pub fn step_of_move(script: &Script, state: &State, course: &Course, b: BufId, m
     })
 }
 
-/// The target to untake: VRAM, then TT, then SYSTEM.
+/// Returns the target to untake: VRAM, then TT, then SYSTEM.
 fn target_to_untake(buffer: &Buffer) -> Mem
     ensures { result ≡ words.target_to_untake buffer.now }
 {
@@ -276,7 +277,7 @@ fn target_to_untake(buffer: &Buffer) -> Mem
     }
 }
 
-/// What a failed search took is given back.
+/// Gives back what a failed search took.
 pub fn step_of_give_back(alloc: Global, state: &State, b: BufId) -> Step
     ensures { result ≡ words.step_of_give_back state.now b }
 {

@@ -4,14 +4,14 @@ ghost use Rattle.rules_search.specs.Room.{HasRoom, is_short, tests_room};
 
 use journal_model::{Buffer, Decl, Script, State};
 
-/// No buffer has more pages than the largest block of a buddy manager that is looked for.
+/// Returns whether no buffer has more pages than the largest block of a buddy manager that is looked for.
 fn have_few_pages(decls: &[Decl]) -> bool
     ensures { result ≡ list_all (λ d. nat_le d.pages 65536) decls.now }
 {
     decls.iter().all(|d| d.pages <= 65536)
 }
 
-/// The page table of a buffer is short enough for the numbers of its pages.
+/// Returns whether the page table of a buffer is short enough for the numbers of its pages.
 fn is_short(slot: &Option<Buffer>) -> bool
     ensures { result ≡ is_short slot.now }
 {
@@ -21,21 +21,21 @@ fn is_short(slot: &Option<Buffer>) -> bool
     }
 }
 
-/// All page tables are.
+/// Returns whether the page tables of all of `slots` are short enough for the numbers of their pages.
 fn are_short(slots: &[Option<Buffer>]) -> bool
     ensures { result ≡ list_all is_short slots.now }
 {
     slots.iter().all(|slot| is_short(slot))
 }
 
-/// Each of these counters can be drawn from once more.
+/// Returns whether each of `counters` can be drawn from once more.
 fn can_rise(counters: &[u64]) -> bool
     ensures { result ≡ list_all (λ n. nat_lt (n + 1) (2 ^ 64)) counters.now }
 {
     counters.iter().all(|n| *n < u64::MAX)
 }
 
-/// The lists are short, and no counter is at its end.
+/// Returns whether the lists are short and no counter is at its end.
 fn tests_room(script: &Script, state: &State) -> bool
     ensures { result ≡ tests_room script.now state.now }
 {
@@ -48,8 +48,8 @@ fn tests_room(script: &Script, state: &State) -> bool
         && can_rise(state.last_jobs.items())
 }
 
-/// Each number of the next entry can be written: buffers have at most 65536 pages, lists are short, and no counter is at its end.
-/// So it is in each state that a journal of fewer than 2^64 - 1 entries leads to, for a script that can be written.
+/// Returns whether each number of the next entry can be written: buffers have at most 65536 pages, lists are short, and no counter is at
+/// its end. So it is in each state that a journal of fewer than 2^64 - 1 entries leads to, for a script that can be written.
 pub fn has_room(script: &Script, state: &State) -> bool
     ensures { IsTrue result ↔ HasRoom script.now state.now }
 {

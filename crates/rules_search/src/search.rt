@@ -11,7 +11,7 @@ use rules_state::{PlaceSearch, first_places, forced_places, whole};
 use std::alloc::Global;
 use ttm_base::{BufId, Mem, Need, NoMemory, Place, Spans};
 
-/// For what a victim of a place is caught.
+/// Returns for what a victim in the memory type `mem` is caught.
 pub fn why_of(mem: Mem) -> Why
     ensures { result ≡ words.why_of mem }
 {
@@ -22,7 +22,8 @@ pub fn why_of(mem: Mem) -> Why
     }
 }
 
-/// The k-th forced place has no choice: it is too short, a buffer is caught there, a ghost is waited for, or it is dry.
+/// Returns the step at the `k`-th forced place, which has no choice: it is too short, a buffer is caught there, a ghost is waited for, or
+/// it is dry.
 fn step_of_crowded(
     alloc: Global,
     script: &Script,
@@ -59,7 +60,7 @@ fn step_of_crowded(
     }))
 }
 
-/// At the k-th of the forced places.
+/// Returns the step at the `k`-th of the forced places `places`.
 fn step_of_forced(
     alloc: Global,
     script: &Script,
@@ -86,7 +87,7 @@ fn step_of_forced(
     }
 }
 
-/// The memory type and the pages of the first place with a choice.
+/// Returns the memory type and the pages of the first of `places` with a choice, or `None` if none has one.
 fn first_choice(
     alloc: Global,
     script: &Script,
@@ -105,7 +106,8 @@ fn first_choice(
     Ok(None)
 }
 
-/// Not yet under pressure, the first place with a choice among those tried first; else the forced place at work.
+/// Returns the step of a search: not yet under pressure, it takes the first place with a choice among those tried first; else it is at the
+/// forced place at work.
 pub fn step_of_place_search(
     alloc: Global,
     script: &Script,

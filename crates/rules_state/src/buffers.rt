@@ -6,7 +6,7 @@ use state_words::{same_buffer, target_of};
 use std::alloc::Global;
 use ttm_base::{BufId, Loc, Mem, NoMemory, Span, Spans};
 
-/// The list without the buffer.
+/// Returns the buffers of `bs`, in their order, without `b`.
 pub fn without_buffer(alloc: Global, bs: &[BufId], b: BufId) -> Result<BufIds, NoMemory>
     ensures { IfOk result (λ rest. rest ≡ words.without_buffer bs.now b) }
 {
@@ -19,7 +19,7 @@ pub fn without_buffer(alloc: Global, bs: &[BufId], b: BufId) -> Result<BufIds, N
     Ok(rest)
 }
 
-/// The buffer, if it is live.
+/// Returns buffer `b` of `buffers` if it is live, else `None`.
 pub fn live_in(buffers: &[Option<Buffer>], b: BufId) -> Option<&Buffer>
     ensures { option_copied result ≡ words.live_in buffers.now b }
 {
@@ -29,14 +29,14 @@ pub fn live_in(buffers: &[Option<Buffer>], b: BufId) -> Option<&Buffer>
     }
 }
 
-/// The buffer is live.
+/// Returns whether buffer `b` is live in `state`.
 pub fn is_live(state: &State, b: BufId) -> bool
     ensures { result ≡ words.is_live state.now b }
 {
     live_in(state.core.buffers.items(), b).is_some()
 }
 
-/// A buffer without pages, which stands for each buffer that isn't live. It takes no memory.
+/// Returns a buffer without pages, which stands for each buffer that isn't live. It takes no memory.
 pub fn dead_buffer(alloc: Global) -> Buffer
     ensures { result ≡ words.new_buffer 0 }
 {
@@ -53,7 +53,7 @@ pub fn dead_buffer(alloc: Global) -> Buffer
     }
 }
 
-/// Makes a buffer of `pages` pages, which are nowhere.
+/// Makes a buffer of `pages` pages, none of which has a place yet.
 pub fn new_buffer(alloc: Global, pages: u32) -> Result<Buffer, NoMemory>
     ensures { IfOk result (λ x. x ≡ words.new_buffer pages) }
 {
@@ -64,7 +64,7 @@ pub fn new_buffer(alloc: Global, pages: u32) -> Result<Buffer, NoMemory>
     Ok(buffer)
 }
 
-/// The buffer, or where it isn't live the empty one.
+/// Returns buffer `b` of `core` if it is live, else `dead`, the buffer without pages.
 pub fn buffer_in<'a>(core: &'a Core, b: BufId, dead: &'a Buffer) -> &'a Buffer
     requires { dead.now ≡ words.new_buffer 0 }
     ensures { result.now ≡ words.buffer_in core.now b }
@@ -75,14 +75,14 @@ pub fn buffer_in<'a>(core: &'a Core, b: BufId, dead: &'a Buffer) -> &'a Buffer
     }
 }
 
-/// The buffer has a target in a memory type.
+/// Returns whether `buffer` has a target in the memory type `mem`.
 pub fn has_target(mem: Mem, buffer: &Buffer) -> bool
     ensures { result ≡ words.has_target mem buffer.now }
 {
     target_of(mem, &buffer.targets).is_some()
 }
 
-/// The target's spans, none where it has no target.
+/// Returns the spans of the target that `buffer` has in the memory type `mem`, none if it has no target there.
 pub fn target_spans(mem: Mem, buffer: &Buffer) -> &[Span]
     ensures { result.now ≡ words.target_spans mem buffer.now }
 {
@@ -92,7 +92,7 @@ pub fn target_spans(mem: Mem, buffer: &Buffer) -> &[Span]
     }
 }
 
-/// Neither pinned nor reserved.
+/// Returns the reservation of a buffer that is neither pinned nor reserved.
 pub fn no_reservation() -> Reservation
     ensures { result ≡ words.no_reservation }
 {
@@ -102,7 +102,7 @@ pub fn no_reservation() -> Reservation
     }
 }
 
-/// How a buffer is held.
+/// Returns the pins and the holder of buffer `b` in `reservations`.
 pub fn reservation_in(reservations: &[Reservation], b: BufId) -> Reservation
     ensures { result ≡ words.reservation_in reservations.now b }
 {
@@ -112,7 +112,7 @@ pub fn reservation_in(reservations: &[Reservation], b: BufId) -> Reservation
     }
 }
 
-/// The course of a thread, if the thread is there. Threads are numbered from 1.
+/// Returns the course of the thread numbered `thread`, counted from 1, or `None` if there is no such thread.
 pub fn course_of(state: &State, thread: u32) -> Option<&Course>
     ensures { option_copied result ≡ words.course_of state.now thread }
 {

@@ -8,7 +8,7 @@ use state_words::{commands_of, declared_places, unflagged, whole};
 use std::alloc::Global;
 use ttm_base::{BufId, FlaggedPlaces, Mem, NoMemory, Op};
 
-/// The command that a thread is at.
+/// Returns the command of `script` that the thread numbered `thread` is at in `state`, or `None` if it is at none.
 pub fn command_at_work<'a>(script: &'a Script, state: &State, thread: u32) -> Option<&'a Command>
     ensures { option_copied result ≡ words.command_at_work script.now state.now thread }
 {
@@ -18,7 +18,7 @@ pub fn command_at_work<'a>(script: &'a Script, state: &State, thread: u32) -> Op
     }
 }
 
-/// Lends the operations of a job, none of a command that is no job.
+/// Returns the operations of `command` if it is a job, else none.
 pub fn ops_of(command: Option<&Command>) -> &[Op]
     ensures { result.now ≡ jobs.ops_of (option_copied command.entry) }
 {
@@ -28,7 +28,7 @@ pub fn ops_of(command: Option<&Command>) -> &[Op]
     }
 }
 
-/// The places where a command wants its buffer.
+/// Returns the places where `command` wants its buffer `b`.
 pub fn asked_places(
     alloc: Global,
     script: &Script,

@@ -11,7 +11,7 @@ use state_words::{as_fallback, is_caught, whole};
 use std::alloc::Global;
 use ttm_base::{BufId, FlaggedPlaces, Mem, NoMemory};
 
-/// The places that a search tries, whether it is under pressure, and how many forced places are dry.
+/// The places that a search tries, whether it is under pressure, and the number of forced places that are dry.
 #[derive(Drop)]
 pub struct PlaceSearch {
     pub list: FlaggedPlaces,
@@ -19,15 +19,15 @@ pub struct PlaceSearch {
     pub dry: u32,
 }
 
-/// Something waits for the buffer.
+/// Returns whether `buffer` has a target in some memory type.
 pub fn has_some_target(buffer: &Buffer) -> bool
     ensures { result ≡ ready.has_some_target buffer.now }
 {
     has_target(Mem::System, buffer) || has_target(Mem::Tt, buffer) || has_target(Mem::Vram, buffer)
 }
 
-/// Gives the search of the buffer `b` for a command: the places that the command asks for, or for a hop between SYSTEM and VRAM all of TT,
-/// tried under pressure alone. A victim's search has come no way.
+/// Returns the search of the buffer `b` for a command: the places that the command asks for, or for a hop between SYSTEM and VRAM all of
+/// TT, tried under pressure alone. A victim's search starts without pressure and with no dry place.
 pub fn place_search_for(
     alloc: Global,
     script: &Script,
@@ -63,7 +63,7 @@ pub fn place_search_for(
     }
 }
 
-/// Gives the search of the buffer `b`, as its state tells it: a victim, and a buffer that has a target, hop through TT; any other goes
+/// Returns the search of the buffer `b` as its state tells it: a victim, and a buffer that has a target, hop through TT; any other goes
 /// where its command asks.
 pub fn place_search_at_work(
     alloc: Global,

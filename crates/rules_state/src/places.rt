@@ -6,7 +6,7 @@ use state_words::{frame_of, name_in_spans};
 use std::alloc::Global;
 use ttm_base::{Loc, Mem, NoMemory, PagePlace};
 
-/// What the page table says of a page.
+/// Returns the place that the page table of `buffer` has for page `i`, `Loc::Zero` if the buffer has no such page.
 pub fn loc_of(buffer: &Buffer, i: u32) -> Loc
     ensures { result ≡ words.loc_of buffer.now i }
 {
@@ -16,7 +16,7 @@ pub fn loc_of(buffer: &Buffer, i: u32) -> Loc
     }
 }
 
-/// The frames of a buffer, in the order of its pages.
+/// Returns the frames of `buffer`, in the order of its pages.
 pub fn frames_of(alloc: Global, buffer: &Buffer) -> Result<Frames, NoMemory>
     ensures { IfOk result (λ frames. frames ≡ words.frames_of buffer.now) }
 {
@@ -29,7 +29,7 @@ pub fn frames_of(alloc: Global, buffer: &Buffer) -> Result<Frames, NoMemory>
     Ok(frames)
 }
 
-/// How packets name a page of a buffer: a page of VRAM, an aperture page of TT, or a frame.
+/// Returns the name that packets give page `i` of `buffer`: a page of VRAM, an aperture page of TT, or a frame.
 pub fn packet_place(buffer: &Buffer, i: u32) -> PagePlace
     ensures { result ≡ words.packet_place buffer.now i }
 {

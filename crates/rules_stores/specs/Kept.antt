@@ -5,7 +5,7 @@ use Rattle.ttm_base.specs.Pages.{Page, nowhere, vram, frame, slot, PageBytes}
 use Rattle.journal_model.specs.rules.Stores.{is_there}
 use Rattle.rules_stores.specs.Room.{room_byte}
 
--- these bytes where there are pages; elsewhere nothing changes
+-- the new bytes where there are pages; elsewhere the old ones
 abbrev pub within : Sizes → PageBytes → PageBytes → PageBytes
 within sizes bytes old = λ page o. if is_there sizes page && nat_lt o 4096 then bytes page o else old page o
 

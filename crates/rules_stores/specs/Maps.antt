@@ -11,11 +11,11 @@ use Rattle.journal_model.specs.rules.Places.{pages_of, mapped_frame, mapped_in}
 abbrev pub frame_beside : ℕ → List (ℕ × ℕ) → Option ℕ
 frame_beside page mapped = option_map (λ e. e.1) (find (λ e. e.0 == page) mapped)
 
--- by a page table
+-- the frame at a page of these spans, by a page table
 abbrev pub frame_in_table : List Span → List Loc → ℕ → Option ℕ
 frame_in_table spans table page = frame_beside page (filter_map mapped_frame (zip (pages_of spans) table))
 
--- by a list of frames
+-- the frame at a page of these spans, by a list of frames
 abbrev pub frame_in_frames : List Span → List ℕ → ℕ → Option ℕ
 frame_in_frames spans frames page = frame_beside page (zip (pages_of spans) frames)
 
@@ -28,6 +28,6 @@ abbrev pub live_mapped : Option Buffer → List (ℕ × ℕ)
 live_mapped None = []
 live_mapped (Some x) = mapped_in x.mem x
 
--- those that a ghost has
+-- the pages of TT with their frames that a ghost has
 abbrev pub ghost_mapped : Ghost → List (ℕ × ℕ)
 ghost_mapped g = zip (pages_of g.tt) g.frames

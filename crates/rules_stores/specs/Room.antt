@@ -9,7 +9,7 @@ room_byte room page o = if nat_lt o 4096 then slice_index room (4096 * page + o)
 abbrev pub has_room : List ℕ → ℕ → Bool
 has_room room page = nat_le (4096 * page + 4096) (length room)
 
--- the byte of page q at o after len bytes of a page from an offset on became those that value gives, as far as the page goes
+-- the byte of page q at o after len bytes of a page from an offset on became those of value, as far as the page goes
 abbrev pub byte_after : List ℕ → ℕ → ℕ → ℕ → (ℕ → ℕ) → ℕ → ℕ → ℕ
 byte_after room page off len value q o =
     if has_room room page && (q == page) && nat_lt o 4096 && nat_le off o && nat_lt o (off + len)

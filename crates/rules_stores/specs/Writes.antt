@@ -15,7 +15,7 @@ abbrev pub IsShortWrite : Option Command → Type 0
 IsShortWrite (Some (command.Write b off bytes)) = length bytes < 2 ^ 32
 IsShortWrite _ = Unit {0}
 
--- by kind
+-- what must hold for the bytes of an entry of each kind to be stored
 abbrev pub CanStore : Script → State → Actor → Kind → Type 0
 CanStore script s who (kind.Result r) = IsShortWrite (command_at_work script s (thread_of who))
 CanStore script s who _ = Unit {0}

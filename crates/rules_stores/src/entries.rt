@@ -18,7 +18,7 @@ use rules_state::rules_parts::actors::{engine_of, thread_of};
 use ttm_base::limits::PAGE_BYTES;
 use ttm_base::{Actor, JobId, Packet, PagePlace};
 
-/// A packet of a job, or a look at nothing where it isn't there.
+/// Returns packet `k` of job `id`, or a probe of no bytes if there is no such packet.
 pub fn job_packet(core: &Core, id: JobId, k: u32) -> Packet
     ensures { result ≡ words.job_packet core.now id k }
 {
@@ -36,7 +36,7 @@ pub fn job_packet(core: &Core, id: JobId, k: u32) -> Packet
     }
 }
 
-/// The part of a page that a packet names.
+/// Returns the part from `off` on of the page that `place` names.
 fn part_of(core: &Core, place: PagePlace, off: u32) -> PagePart
     ensures page { page_of result.page ≡ translated (aperture core.now) place }
     ensures off { result.off ≡ off }
@@ -47,7 +47,7 @@ fn part_of(core: &Core, place: PagePlace, off: u32) -> PagePart
     }
 }
 
-/// Runs a packet, through the aperture of this core.
+/// Runs `packet`, through the aperture of `core`.
 fn run_packet(stores: &mut PlainStores, core: &Core, packet: Packet)
     ensures { BecomesBytes stores.old stores.new (after_packet (aperture core.now) (bytes_of stores.old) packet) }
 {
@@ -83,7 +83,7 @@ fn run_packet(stores: &mut PlainStores, core: &Core, packet: Packet)
     }
 }
 
-/// Puts the bytes of a write at the places of its buffer.
+/// Writes the bytes of `command` at the places of its buffer, if it is a write.
 pub fn put_write(stores: &mut PlainStores, state: &State, command: &Command)
     requires { IsShortWrite (Some command.now) }
     ensures { BecomesBytes stores.old stores.new (words.written state.now (Some command.now) (bytes_of stores.old)) }
@@ -93,7 +93,7 @@ pub fn put_write(stores: &mut PlainStores, state: &State, command: &Command)
     }
 }
 
-/// Puts the bytes of the command that is answered, if it is a write.
+/// Writes the bytes of the command that `thread` is answered, if it is a write.
 fn answer(stores: &mut PlainStores, script: &Script, state: &State, thread: u32)
     requires { IsShortWrite (command_at_work script.now state.now thread) }
     ensures { BecomesBytes stores.old stores.new (words.written state.now (command_at_work script.now state.now thread) (bytes_of stores.old)) }
@@ -103,7 +103,7 @@ fn answer(stores: &mut PlainStores, script: &Script, state: &State, thread: u32)
     }
 }
 
-/// All bytes of a page.
+/// Returns the part of `page` that is all of it.
 fn whole(page: StorePage) -> PagePart
     ensures { result ≡ record { page = page; off = 0 } }
 {
@@ -116,7 +116,7 @@ impl PlainStores {
     ghost use Rattle.rules_stores.specs.Kept.{BecomesBytes, bytes_of};
     ghost use Rattle.rules_stores.specs.Writes.{CanStore};
 
-    /// The bytes after an entry that was made in this state. It takes no memory.
+    /// Makes the bytes those after `entry`, which was made in `state`. It takes no memory.
     pub fn after(&mut self, script: &Script, state: &State, entry: &Entry)
         requires { CanStore script.now state.now entry.now.who entry.now.kind }
         ensures { BecomesBytes self.old self.new (words.stores_after script.now state.now entry.now.who entry.now.kind (bytes_of self.old)) }
@@ -148,7 +148,7 @@ impl PlainStores {
     }
 }
 
-/// The entry's bytes can be stored. Those of each entry can for a script that meets the grammar.
+/// Returns whether the bytes of an entry of this `kind` can be stored. Those of each entry can for a script that meets the grammar.
 pub fn can_store(script: &Script, state: &State, who: Actor, kind: &Kind) -> bool
     ensures { IsTrue result ↔ CanStore script.now state.now who kind.now }
 {

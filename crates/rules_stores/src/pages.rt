@@ -9,7 +9,7 @@ use rules_holds::has_page;
 use rules_state::{length_of, live_in, loc_of, page_at};
 use ttm_base::{BufId, Loc, Mem, PagePlace, Span};
 
-/// A page that has bytes: of VRAM, a frame, or a swap slot. Zeros stand nowhere.
+/// A page that has bytes: a page of VRAM, a frame, or a swap slot. A page of zeros stands nowhere.
 #[derive(Clone, Copy)]
 pub enum StorePage {
     Nowhere,
@@ -23,7 +23,7 @@ impl StorePage {
     ghost use Rattle.journal_model.specs.rules.Places as words;
     ghost use Rattle.rules_stores.specs.StorePages.{page_of};
 
-    /// Where the page table has a page.
+    /// Returns the page with the bytes of a page that the page table has at `loc`.
     fn in_table(loc: Loc) -> StorePage
         ensures { page_of result ≡ words.page_in_table loc }
     {
@@ -34,7 +34,7 @@ impl StorePage {
         }
     }
 
-    /// Where a buffer has a page.
+    /// Returns the page with the bytes of page `i` of `buffer`.
     fn of_buffer(buffer: &Buffer, i: u32) -> StorePage
         ensures { page_of result ≡ words.page_at buffer.now i }
     {
@@ -47,7 +47,7 @@ impl StorePage {
         }
     }
 
-    /// Where a buffer has a page now; one that isn't live has it nowhere.
+    /// Returns the page with the bytes of page `i` of buffer `b`: nowhere if the buffer isn't live.
     pub fn of(core: &Core, b: BufId, i: u32) -> StorePage
         ensures { page_of result ≡ words.place_of core.now b i }
     {
@@ -57,7 +57,7 @@ impl StorePage {
         }
     }
 
-    /// The page that a packet names. A page of TT stands for the frame to which it is mapped.
+    /// Returns the page that a packet names. A page of TT stands for the frame to which it is mapped.
     pub fn named(core: &Core, place: PagePlace) -> StorePage
         ensures { page_of result ≡ translated (words.aperture core.now) place }
     {
@@ -72,14 +72,14 @@ impl StorePage {
     }
 }
 
-/// The items after the first `count`.
+/// Returns the items after the first `count`.
 fn behind<T>(items: &[T], count: usize) -> &[T]
     ensures { result.now ≡ drop count items.now }
 {
     &items[items.len().min(count)..]
 }
 
-/// The frame at a page, if the span has it, by the part of a page table that begins with the span's first page.
+/// Returns the frame at `page`, if the span has it. `table` is the part of a page table that begins with the span's first page.
 fn frame_by_table(span: Span, table: &[Loc], page: u32) -> Option<u32>
     ensures { result ≡ maps.at_span frame_of span table.now page }
 {
@@ -92,7 +92,7 @@ fn frame_by_table(span: Span, table: &[Loc], page: u32) -> Option<u32>
     }
 }
 
-/// The frame at a page of these spans, by a page table.
+/// Returns the frame at `page` of `spans`, whose pages have the page table `table`, or `None` if there is none.
 fn frame_in_table(spans: &[Span], table: &[Loc], page: u32) -> Option<u32>
     ensures { result ≡ maps.frame_in_table spans.now table.now page }
 {
@@ -106,7 +106,7 @@ fn frame_in_table(spans: &[Span], table: &[Loc], page: u32) -> Option<u32>
     None
 }
 
-/// The frame at a page, if the span has it, by the part of a list of frames that begins with the span's first page.
+/// Returns the frame at `page`, if the span has it. `frames` is the part of a list of frames that begins with the span's first page.
 fn frame_by_list(span: Span, frames: &[u32], page: u32) -> Option<u32>
     ensures { result ≡ maps.at_span (λ f. Some f) span frames.now page }
 {
@@ -116,7 +116,7 @@ fn frame_by_list(span: Span, frames: &[u32], page: u32) -> Option<u32>
     frames.get((page - span.start) as usize).copied()
 }
 
-/// The frame at a page of these spans, by a list of frames.
+/// Returns the frame at `page` of `spans`, whose pages have the frames `frames`, or `None` if there is none.
 fn frame_in_frames(spans: &[Span], frames: &[u32], page: u32) -> Option<u32>
     ensures { result ≡ maps.frame_in_frames spans.now frames.now page }
 {
@@ -130,7 +130,7 @@ fn frame_in_frames(spans: &[Span], frames: &[u32], page: u32) -> Option<u32>
     None
 }
 
-/// The frame at a page of TT where a declared buffer has it.
+/// Returns the frame at `page` of TT if a live buffer in `slot` has the page.
 fn frame_of_live(slot: &Option<Buffer>, page: u32) -> Option<u32>
     ensures { result ≡ maps.frame_beside page (maps.live_mapped slot.now) }
 {
@@ -143,7 +143,7 @@ fn frame_of_live(slot: &Option<Buffer>, page: u32) -> Option<u32>
     }
 }
 
-/// The frame at a page of TT where some live buffer has it.
+/// Returns the frame at `page` of TT if some live buffer has the page.
 fn frame_in_buffers(buffers: &[Option<Buffer>], page: u32) -> Option<u32>
     ensures { result ≡ maps.frame_beside page (flat_map maps.live_mapped buffers.now) }
 {
@@ -155,14 +155,14 @@ fn frame_in_buffers(buffers: &[Option<Buffer>], page: u32) -> Option<u32>
     None
 }
 
-/// The frame at a page of TT where a ghost has it.
+/// Returns the frame at `page` of TT if the ghost `left` has the page.
 fn frame_of_ghost(left: &Ghost, page: u32) -> Option<u32>
     ensures { result ≡ maps.frame_beside page (maps.ghost_mapped left.now) }
 {
     frame_in_frames(left.tt.items(), left.frames.items(), page)
 }
 
-/// The frame at a page of TT where some ghost has it.
+/// Returns the frame at `page` of TT if some ghost has the page.
 fn frame_in_ghosts(ghosts: &[Ghost], page: u32) -> Option<u32>
     ensures { result ≡ maps.frame_beside page (flat_map maps.ghost_mapped ghosts.now) }
 {
@@ -174,7 +174,7 @@ fn frame_in_ghosts(ghosts: &[Ghost], page: u32) -> Option<u32>
     None
 }
 
-/// The frame to which a page of TT is mapped.
+/// Returns the frame to which `page` of TT is mapped, or `None` if it is mapped to none.
 #[tactic(auto, using(crate::proofs::MapLaws::aperture_is))]
 fn mapped_frame(core: &Core, page: u32) -> Option<u32>
     ensures { result ≡ words.aperture core.now page }

@@ -11,17 +11,17 @@ use journal_model::Core;
 use ttm_base::BufId;
 use ttm_base::limits::PAGE_BYTES;
 
-/// Bytes of a page.
+/// The bytes of a page.
 const PAGE: usize = PAGE_BYTES as usize;
 
-/// A part of a page: where it begins.
+/// A part of a page: the page, and the offset in bytes at which the part begins.
 #[derive(Clone, Copy)]
 pub struct PagePart {
     pub page: StorePage,
     pub off: u32,
 }
 
-/// Copies bytes of a page to another through a list of as many.
+/// Copies `len` bytes from one page to another through `through`, which is as long.
 fn copy_through(
     stores: &mut PlainStores,
     through: &mut [u8],
@@ -36,7 +36,7 @@ fn copy_through(
     stores.write(to.page, to.off, through);
 }
 
-/// Copies bytes of a page to another.
+/// Copies `len` bytes from one page to another.
 pub fn copy_part(stores: &mut PlainStores, to: PagePart, from: PagePart, len: u32)
     ensures { BecomesBytes stores.old stores.new (with_bytes (bytes_of stores.old) (page_of to.page) to.off len (λ i. bytes_of stores.old (page_of from.page) (from.off + i))) }
 {
@@ -45,7 +45,7 @@ pub fn copy_part(stores: &mut PlainStores, to: PagePart, from: PagePart, len: u3
     copy_through(stores, &mut through[..count], to, from, len);
 }
 
-/// Puts the exclusive or with other bytes in the place of some bytes.
+/// Replaces each of `bytes` with its exclusive or with that of `other`.
 fn xor_into(bytes: &mut [u8], other: &[u8])
     requires { length bytes.old ≡ length other.now }
     ensures { (i : ℕ) → i < length bytes.old → slice_index bytes.new i ≡ bit_xor (slice_index bytes.old i) (slice_index other.now i) }
@@ -55,7 +55,7 @@ fn xor_into(bytes: &mut [u8], other: &[u8])
     }
 }
 
-/// Puts the exclusive or with bytes of another page in the place of bytes of a page, through two lists of as many.
+/// Replaces `len` bytes at `to` with their exclusive or with the bytes at `from`, through `through` and `beside`, which are as long.
 fn xor_through(
     stores: &mut PlainStores,
     through: &mut [u8],
@@ -74,7 +74,7 @@ fn xor_through(
     stores.write(to.page, to.off, through);
 }
 
-/// Puts the exclusive or with bytes of another page in the place of bytes of a page.
+/// Replaces `len` bytes at `to` with their exclusive or with the bytes at `from`.
 pub fn xor_part(stores: &mut PlainStores, to: PagePart, from: PagePart, len: u32)
     ensures { BecomesBytes stores.old stores.new (with_bytes (bytes_of stores.old) (page_of to.page) to.off len (λ i. bit_xor (bytes_of stores.old (page_of to.page) (to.off + i)) (bytes_of stores.old (page_of from.page) (from.off + i)))) }
 {
@@ -91,7 +91,7 @@ pub fn xor_part(stores: &mut PlainStores, to: PagePart, from: PagePart, len: u32
     );
 }
 
-/// Puts bytes into a buffer from an offset on, page by page.
+/// Writes `bytes` into buffer `b` from offset `off` on, page by page.
 pub fn put_bytes(stores: &mut PlainStores, core: &Core, b: BufId, off: usize, bytes: &[u8])
     requires { off + length bytes.now < 2 ^ 44 }
     ensures { BecomesBytes stores.old stores.new (words.put_bytes (buffer_in core.now b) off bytes.now (bytes_of stores.old)) }

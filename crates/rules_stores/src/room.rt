@@ -6,7 +6,7 @@ use std::alloc::Global;
 use std::marker::Model;
 use ttm_base::NoMemory;
 
-/// Bytes of pages, page after page.
+/// The bytes of pages, page after page.
 #[derive(Drop)]
 pub struct Room {
     bytes: ByteStore,
@@ -23,7 +23,7 @@ impl Model for Room {
     ghost invariant = { λ s. length s.bytes ≡ 4096 * s.pages };
 }
 
-/// The position of a byte of a page.
+/// Returns the position of the byte at `off` of `page`.
 fn position_of(page: u32, off: u32) -> u64
     ensures { result ≡ 4096 * page + off }
 {
@@ -31,7 +31,7 @@ fn position_of(page: u32, off: u32) -> u64
 }
 
 impl Room {
-    /// So many pages of zeros.
+    /// Makes `pages` pages of zeros.
     #[tactic(auto, using(crate::proofs::RoomLaws::zeros_of))]
     pub fn new(alloc: Global, pages: u32) -> Result<Room, NoMemory>
         ensures { IfOk result (λ room. room ≡ replicate (4096 * pages) 0) }
@@ -40,7 +40,7 @@ impl Room {
         Ok(Room { bytes, pages })
     }
 
-    /// How many of some bytes stand on a page from an offset on, if the page is there.
+    /// Counts those of `len` bytes from `off` on that stand on `page`: 0 if there is no such page.
     fn count_on_page(&self, page: u32, off: u32, len: u64) -> u64
         ensures { result ≡ (if has_room self.now page then min (4096 - off) len else 0) }
     {
@@ -51,7 +51,7 @@ impl Room {
         }
     }
 
-    /// The byte of a page at an offset, or 0 where there is none.
+    /// Returns the byte at `off` of `page`, or 0 where there is none.
     pub fn byte(&self, page: u32, off: u32) -> u8
         ensures { result ≡ room_byte self.now page off }
     {
@@ -62,7 +62,7 @@ impl Room {
         }
     }
 
-    /// Writes bytes to a page from an offset on, as far as the page goes.
+    /// Writes `from` to `page` from `off` on, as far as the page goes.
     pub fn write(&mut self, page: u32, off: u32, from: &[u8])
         ensures len { length self.new ≡ length self.old }
         ensures bytes { (q o : ℕ) → room_byte self.new q o ≡ byte_after self.old page off (length from.now) (slice_index from.now) q o }
@@ -74,7 +74,7 @@ impl Room {
         }
     }
 
-    /// Writes `byte` to `len` bytes of a page from `off` on, as far as the page goes.
+    /// Writes `byte` to `len` bytes of `page` from `off` on, as far as the page goes.
     pub fn fill(&mut self, page: u32, off: u32, len: u32, byte: u8)
         ensures len { length self.new ≡ length self.old }
         ensures bytes { (q o : ℕ) → room_byte self.new q o ≡ byte_after self.old page off len (λ i. byte) q o }
@@ -85,7 +85,7 @@ impl Room {
         }
     }
 
-    /// Reads bytes of a page from an offset on; zeros follow the page.
+    /// Reads bytes of `page` from `off` on into `into`. Zeros follow the page.
     pub fn read(&self, page: u32, off: u32, into: &mut [u8])
         ensures { (i : ℕ) → i < length into.old → slice_index into.new i ≡ (if has_room self.now page then room_byte self.now page (off + i) else 0) }
     {

@@ -18,10 +18,10 @@ use std::alloc::Global;
 use ttm_base::limits::PAGE_BYTES;
 use ttm_base::{Actor, BufId, JobId, NoMemory, Packet};
 
-/// Bytes of a page.
+/// The bytes of a page.
 const PAGE: u64 = PAGE_BYTES as u64;
 
-/// The byte of a buffer at an offset that is counted from another.
+/// Returns the byte of buffer `b` at `i` bytes after `off`.
 fn buffer_byte(stores: &PlainStores, core: &Core, b: BufId, off: u32, i: u32) -> u8
     ensures { result ≡ words.byte_of (bytes_of stores.now) (buffer_in core.now b) (off + i) }
 {
@@ -30,7 +30,7 @@ fn buffer_byte(stores: &PlainStores, core: &Core, b: BufId, off: u32, i: u32) ->
     stores.byte(page, (at % PAGE) as u32)
 }
 
-/// Bytes of a buffer from an offset on.
+/// Returns `len` bytes of buffer `b` from `off` on.
 fn buffer_bytes(
     alloc: Global,
     stores: &PlainStores,
@@ -48,7 +48,7 @@ fn buffer_bytes(
     Ok(bytes)
 }
 
-/// The byte of a page at an offset that is counted from another.
+/// Returns the byte of `page` at `i` bytes after `off`, 0 where that offset is past 32 bits.
 fn page_byte(stores: &PlainStores, page: StorePage, off: u32, i: u32) -> u8
     ensures { result ≡ bytes_of stores.now (page_of page) (off + i) }
 {
@@ -58,7 +58,7 @@ fn page_byte(stores: &PlainStores, page: StorePage, off: u32, i: u32) -> u8
     }
 }
 
-/// Bytes of a page from an offset on.
+/// Returns `len` bytes of `page` from `off` on.
 fn page_bytes(
     alloc: Global,
     stores: &PlainStores,
@@ -75,7 +75,7 @@ fn page_bytes(
     Ok(bytes)
 }
 
-/// What a read shows: the bytes that stand at the buffer's places.
+/// Returns what a read shows: the bytes that stand at the buffer's places. Any other command shows none.
 fn read(
     alloc: Global,
     stores: &PlainStores,
@@ -92,7 +92,7 @@ fn read(
     }
 }
 
-/// What a packet shows: the bytes at which a probe looks.
+/// Returns what `packet` shows: the bytes at which a probe looks. Any other packet shows none.
 fn piece(
     alloc: Global,
     stores: &PlainStores,
@@ -109,7 +109,7 @@ fn piece(
     }
 }
 
-/// A result with the bytes that it shows.
+/// Returns the result `shown` with the bytes that it shows, those of a read.
 fn shown_result(
     alloc: Global,
     stores: &PlainStores,
@@ -131,7 +131,7 @@ impl PlainStores {
     ghost use Rattle.journal_model.specs.rules.Stores as words;
     ghost use Rattle.rules_stores.specs.Kept.{bytes_of};
 
-    /// An entry that an actor makes next in this state, with the bytes that it shows: those of a read, or of a probe.
+    /// Returns the entry that `who` makes next in `state` with the bytes that it shows: those of a read, or of a probe.
     pub fn showing(
         &self,
         alloc: Global,

@@ -42,7 +42,7 @@ impl Model for PlainStores {
 }
 
 impl PlainStores {
-    /// Makes stores of `sizes` pages, frames and slots, all zeros.
+    /// Makes stores of all zeros, with the pages of VRAM, frames and slots that `sizes` tells.
     pub fn new(alloc: Global, sizes: Sizes) -> Result<PlainStores, NoMemory>
         ensures sizes { IfOk result (λ s. s.sizes ≡ sizes) }
         ensures bytes { IfOk result (λ s. bytes_of s ≡ zeros) }
@@ -55,7 +55,7 @@ impl PlainStores {
         })
     }
 
-    /// The byte of a page at an offset.
+    /// Returns the byte of `page` at `off`.
     pub fn byte(&self, page: StorePage, off: u32) -> u8
         ensures { result ≡ bytes_of self.now (page_of page) off }
     {
@@ -67,7 +67,7 @@ impl PlainStores {
         }
     }
 
-    /// Reads bytes of a page from an offset on.
+    /// Reads bytes of `page` from `off` on into `into`.
     pub fn read(&self, page: StorePage, off: u32, into: &mut [u8])
         ensures { (i : ℕ) → i < length into.old → slice_index into.new i ≡ bytes_of self.now (page_of page) (off + i) }
     {
@@ -79,7 +79,7 @@ impl PlainStores {
         }
     }
 
-    /// Writes bytes to a page from an offset on.
+    /// Writes `from` to `page` from `off` on.
     pub fn write(&mut self, page: StorePage, off: u32, from: &[u8])
         ensures { BecomesBytes self.old self.new (with_bytes (bytes_of self.old) (page_of page) off (length from.now) (slice_index from.now)) }
     {
@@ -91,7 +91,7 @@ impl PlainStores {
         }
     }
 
-    /// Writes `byte` to `len` bytes of a page from `off` on.
+    /// Writes `byte` to `len` bytes of `page` from `off` on.
     pub fn fill(&mut self, page: StorePage, off: u32, len: u32, byte: u8)
         ensures { BecomesBytes self.old self.new (with_bytes (bytes_of self.old) (page_of page) off len (λ i. byte)) }
     {

@@ -79,7 +79,7 @@ fn xor(addr: &[u8], from: &[u8], len: &[u8]) -> VOpWord
     }
 }
 
-/// An operation with addresses by its words.
+/// Returns the operation with addresses that `words` tell.
 fn op(words: &[Bytes]) -> VOpWord
     ensures { result ≡ vop_of words.now }
 {
@@ -119,7 +119,7 @@ fn is_some_no_op(ops: &[VOpWord]) -> bool
     ops.iter().any(|o| is_no_op_word(o))
 }
 
-/// The operations, with a lone semicolon between them.
+/// Returns the operations that `words` tell, with a lone semicolon between each two.
 fn ops(alloc: Global, words: &[Bytes]) -> Result<VOpWords, NoMemory>
     ensures { IfOk result (λ ops. ops ≡ vop_words_of words.now) }
 {

@@ -61,7 +61,7 @@ fn xor(names: &Names, d: &[u8], doff: &[u8], s: &[u8], soff: &[u8], len: &[u8]) 
     }
 }
 
-/// An operation by its words.
+/// Returns the operation that `words` tell.
 fn op(names: &Names, words: &[Bytes]) -> OpWord
     requires { length names.now ≤ 256 }
     ensures { result ≡ op_of names.now words.now }
@@ -105,7 +105,7 @@ fn is_some_no_op(ops: &[OpWord]) -> bool
     ops.iter().any(|o| is_no_op_word(o))
 }
 
-/// The operations, with a lone semicolon between them.
+/// Returns the operations that `words` tell, with a lone semicolon between each two.
 fn ops(alloc: Global, names: &Names, words: &[Bytes]) -> Result<OpWords, NoMemory>
     requires { length names.now ≤ 256 }
     ensures { IfOk result (λ ops. ops ≡ op_words_of names.now words.now) }

@@ -270,7 +270,7 @@ fn unmap(names: &Names, words: &[Bytes]) -> Option<Line>
     }
 }
 
-/// The parts of a line with this keyword.
+/// Returns the parts of a line with this `keyword`.
 fn parts(
     alloc: Global,
     names: &Names,
@@ -320,8 +320,8 @@ fn is_some_empty(words: &[Bytes]) -> bool
     words.iter().any(|w| w.len() == 0)
 }
 
-/// The line of these words, with each word read as far as it can be; None where there is a wrong space, a wrong number
-/// of words or a wrong fixed word.
+/// Returns the line of `words`, with each word read as far as it can be, or `None` where there is a wrong space, a wrong number of words or
+/// a wrong fixed word.
 pub fn line(
     alloc: Global,
     names: &Names,

@@ -152,7 +152,7 @@ fn with_base(
     }
 }
 
-// What follows a first word of `first` bytes and the byte that ends it.
+// Returns what follows a first word of `first` bytes and the byte that ends it.
 fn behind(base: &[u8], first: usize) -> &[u8]
     requires inside { first + 1 ≤ length base.now }
     ensures { result.now ≡ drop (first + 1) base.now }
@@ -191,7 +191,7 @@ fn with_plus(alloc: Global, two: bool, words: &[Bytes]) -> Result<PlaceWord, NoM
     }
 }
 
-/// A place by its word; in version 2 it may end with a flag of its own.
+/// Returns the place that `word` tells. In version 2 it may end with a flag of its own.
 pub fn place(alloc: Global, two: bool, word: &[u8]) -> Result<PlaceWord, NoMemory>
     ensures { IfOk result (λ place. place ≡ place_word_of two word.now) }
 {
@@ -209,7 +209,7 @@ fn places_in(alloc: Global, two: bool, words: &[Bytes]) -> Result<PlaceWords, No
     Ok(places)
 }
 
-/// The places of a list, with commas between them.
+/// Returns the places of a list, which has commas between them.
 pub fn places(alloc: Global, two: bool, word: &[u8]) -> Result<PlaceWords, NoMemory>
     ensures { IfOk result (λ places. places ≡ places_of two word.now) }
 {

@@ -15,11 +15,11 @@ abbrev pub names_many : Option (List Op) → Bool
 names_many (Some ops) = nat_lt 16 (length (first_mentions [] (flat_map buffers_of_op ops)))
 names_many None = false
 
--- the job by name has
+-- the job by name has more than 16 buffers
 abbrev pub has_many : List Region → List VOp → Bool
 has_many regions ops = names_many (job_by_name regions ops)
 
--- a buffer in both ranges, or a job that is too big
+-- a buffer stands in both ranges of an operation, or the job by name is too big
 abbrev pub breaks_job_at : List Region → List VOpWord → Bool
 breaks_job_at regions words =
     list_any (λ w. not (has_apart_ranges regions (vop_in w))) words || is_big_named_job (job_by_name regions (map vop_in words))

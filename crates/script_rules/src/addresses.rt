@@ -19,7 +19,7 @@ use journal_model::{Script, VOp, VOps};
 use std::alloc::Global;
 use ttm_base::{BufId, ItemList, NoMemory, Op};
 
-/// The bytes of an address space.
+/// The number of bytes of an address space.
 const SPACE_BYTES: u64 = 4_294_967_296;
 
 fn lacks_op_number(op: &VOpWord) -> bool
@@ -42,7 +42,7 @@ pub(crate) fn lack_address(ops: &[VOpWord]) -> bool
     ops.iter().any(|o| lacks_op_number(o))
 }
 
-/// A first place and a length pass the end.
+/// Returns whether `len` places from `first` on pass `end`.
 pub(crate) fn does_pass_end(end: u64, first: Option<u32>, len: Option<u32>) -> bool
     ensures { result ≡ passes_end end first len }
 {
@@ -131,7 +131,7 @@ fn op_of(word: VOpWord) -> VOp
     }
 }
 
-/// The operations of words that have all their parts.
+/// Returns the operations of `words`, which have all their parts.
 pub fn vops_of(alloc: Global, words: &[VOpWord]) -> Result<VOps, NoMemory>
     ensures { IfOk result (λ ops. ops ≡ map vop_in words.now) }
 {
@@ -142,7 +142,7 @@ pub fn vops_of(alloc: Global, words: &[VOpWord]) -> Result<VOps, NoMemory>
     Ok(ops)
 }
 
-/// A buffer stands in both ranges of an operation, as far as their pages are mapped.
+/// Returns whether a buffer stands in both ranges of an operation, as far as their pages are mapped.
 fn some_buffer_is_twice(
     alloc: Global,
     thread_mappings: &ThreadMappings,
@@ -172,7 +172,7 @@ fn mention_op(seen: &mut ItemList<BufId>, op: &Op) -> Result<(), NoMemory>
     }
 }
 
-/// Each buffer of operations once.
+/// Lists each buffer of `ops` once.
 fn mentioned_by(alloc: Global, ops: &[Op]) -> Result<ItemList<BufId>, NoMemory>
     ensures { IfOk result (λ seen. seen ≡ first_mentions [] (flat_map buffers_of_op ops.now)) }
 {
@@ -183,7 +183,7 @@ fn mentioned_by(alloc: Global, ops: &[Op]) -> Result<ItemList<BufId>, NoMemory>
     Ok(seen)
 }
 
-/// The job by name, of few operations, has more than 16 buffers.
+/// Returns whether the job by name, of few operations, has more than 16 buffers.
 fn has_many_buffers(
     alloc: Global,
     thread_mappings: &ThreadMappings,
@@ -201,7 +201,7 @@ fn has_many_buffers(
     }
 }
 
-/// Each page is mapped, and the job by name has more than 64 operations or 16 buffers.
+/// Returns whether each page is mapped and the job by name has more than 64 operations or 16 buffers.
 fn is_big(alloc: Global, thread_mappings: &ThreadMappings, ops: &[VOp]) -> Result<bool, NoMemory>
     requires { list_all is_inside ops.now ≡ true }
     ensures { IfOk result (λ big. big ≡ is_big_named_job (job_by_name thread_mappings.now.regions ops.now)) }
@@ -217,7 +217,7 @@ fn is_big(alloc: Global, thread_mappings: &ThreadMappings, ops: &[VOp]) -> Resul
     }
 }
 
-/// A buffer in both ranges of a copy or xor, or too many buffers or operations by name.
+/// Returns whether a buffer stands in both ranges of a copy or xor, or there are too many buffers or operations by name.
 pub(crate) fn breaks_addressed_job(
     alloc: Global,
     thread_mappings: &ThreadMappings,
@@ -246,7 +246,7 @@ fn len_of(op: &VOpWord) -> u32
     }
 }
 
-/// The lengths of the operations as they are written, where they come to no more than there is left.
+/// Returns the sum of the lengths of `ops` in bytes as they are written, or `None` if it is more than `left`.
 pub fn addressed_lens_within(left: u64, ops: &[VOpWord]) -> Option<u64>
     ensures { result ≡ (if nat_lt left (sum_by len_of_vop_word ops.now) then None else Some (sum_by len_of_vop_word ops.now)) }
 {
@@ -261,7 +261,7 @@ pub fn addressed_lens_within(left: u64, ops: &[VOpWord]) -> Option<u64>
     Some(sum)
 }
 
-/// A page of a range of addresses isn't mapped.
+/// Returns whether a page of a range of addresses isn't mapped.
 pub(crate) fn breaks_page(
     alloc: Global,
     script: &Script,

@@ -91,7 +91,7 @@ fn lack_number(ops: &[OpWord]) -> bool
     ops.iter().any(|o| lacks_op_number(o))
 }
 
-/// A number isn't plain or is out of its range.
+/// Returns whether a number isn't plain or is out of its range.
 fn breaks_number(line: &Line) -> bool
     ensures { result ≡ lacks_number line.now }
 {
@@ -171,7 +171,7 @@ fn breaks_head_name(names: &Names, head: &BufferHead) -> bool
     !is_good_name(head.name.items()) || names.contains(head.name.items())
 }
 
-/// A name is malformed, unknown, or declared twice.
+/// Returns whether a name is malformed, unknown, or declared twice.
 fn breaks_name(names: &Names, script: &Script, line: &Line) -> bool
     requires { names.now ≡ names_of script.now.buffers }
     ensures { result ≡ lacks_name script.now line.now }
@@ -224,7 +224,7 @@ fn has_forced(places: &[PlaceWord]) -> bool
     places.iter().any(|p| can_force(p))
 }
 
-/// A place or a list of places is malformed.
+/// Returns whether a place or a list of places is malformed.
 fn breaks_place(line: &Line) -> bool
     ensures { result ≡ lacks_place line.now }
 {
@@ -347,7 +347,7 @@ fn pages_pass(script: &Script, b: Option<BufId>, off: Option<u32>, n: Option<u32
     }
 }
 
-/// A range passes its buffer or its space, a length is 0, or too many bytes would be shown.
+/// Returns whether a range passes its buffer or its space, a length is 0, or too many bytes would be shown.
 fn breaks_range(script: &Script, line: &Line) -> bool
     ensures { result ≡ has_range_fault script.now line.now }
 {
@@ -390,7 +390,7 @@ fn are_bad_bytes(bytes: &Option<Bytes>) -> bool
     }
 }
 
-/// Bytes are malformed, none, or more than 256.
+/// Returns whether bytes are malformed, none, or more than 256.
 fn breaks_bytes(line: &Line) -> bool
     ensures { result ≡ has_byte_fault line.now }
 {
@@ -462,7 +462,7 @@ fn mention_op(seen: &mut ItemList<BufId>, op: &OpWord) -> Result<(), NoMemory>
     }
 }
 
-/// Each buffer of a job once.
+/// Lists each buffer of a job once.
 fn mentioned_in(alloc: Global, ops: &[OpWord]) -> Result<ItemList<BufId>, NoMemory>
     ensures { IfOk result (λ seen. seen ≡ first_mentions [] (flat_map buffers_of_word ops.now)) }
 {
@@ -480,7 +480,7 @@ fn is_too_big(alloc: Global, ops: &[OpWord]) -> Result<bool, NoMemory>
     Ok(64 < ops.len() || 16 < seen.len())
 }
 
-/// One buffer twice in a copy or xor, or too many buffers or operations in a job.
+/// Returns whether one buffer stands twice in a copy or xor, or there are too many buffers or operations in a job.
 fn breaks_job(
     alloc: Global,
     script: &Script,
@@ -519,7 +519,7 @@ fn is_engine_missing(engine: EngineWord) -> bool
     matches!(engine, EngineWord::Missing)
 }
 
-/// An engine or an actor that isn't there.
+/// Returns whether the line names an engine or an actor that isn't there.
 fn breaks_actor(line: &Line) -> bool
     ensures { result ≡ lacks_actor line.now }
 {
@@ -531,7 +531,7 @@ fn breaks_actor(line: &Line) -> bool
     }
 }
 
-/// One line too many.
+/// Returns whether the line is one too many.
 fn breaks_count(progress: &Progress, line: &Line) -> bool
     ensures { result ≡ is_one_too_many progress.now line.now }
 {
@@ -565,7 +565,7 @@ fn len_of(op: &OpWord) -> u32
     }
 }
 
-/// The lengths of the operations, where they come to no more than there is left.
+/// Returns the sum of the lengths of `ops` in bytes, or `None` if it is more than `left`.
 pub fn lens_within(left: u64, ops: &[OpWord]) -> Option<u64>
     ensures { result ≡ (if nat_lt left (sum_by len_of_word ops.now) then None else Some (sum_by len_of_word ops.now)) }
 {
@@ -580,7 +580,7 @@ pub fn lens_within(left: u64, ops: &[OpWord]) -> Option<u64>
     Some(sum)
 }
 
-/// The lengths of all operations are too great.
+/// Returns whether the lengths of all operations are too great.
 fn breaks_lens(progress: &Progress, line: &Line) -> bool
     requires { progress.now.lens ≤ 67108864 }
     ensures { result ≡ is_too_long progress.now line.now }
@@ -606,7 +606,7 @@ fn is_mapped(thread_mappings: &ThreadMappings, b: Option<BufId>) -> bool
     }
 }
 
-/// A map of a buffer that the thread has mapped, or an unmap, peek or poke of one that it hasn't.
+/// Returns whether the line maps a buffer that the thread has mapped, or unmaps, peeks or pokes one that it hasn't.
 fn breaks_mapping(thread_mappings: &ThreadMappings, line: &Line) -> bool
     ensures { (d : marks.ThreadMappings) → IsThreadMappings thread_mappings.now d → result ≡ has_map_fault d line.now }
 {
@@ -627,7 +627,7 @@ fn breaks_mapping(thread_mappings: &ThreadMappings, line: &Line) -> bool
     }
 }
 
-/// The least rule from the fifth on that the line breaks.
+/// Returns the least rule from the fifth on that the line breaks, or `None` if it breaks none of them.
 pub fn broken(
     alloc: Global,
     names: &Names,

@@ -38,7 +38,7 @@ impl Model for ThreadMappings {
 }
 
 impl ThreadMappings {
-    /// Nothing is mapped.
+    /// Returns mappings with nothing mapped.
     pub fn new(alloc: Global) -> ThreadMappings
         ensures { IsThreadMappings result empty_thread_mappings }
     {
@@ -48,28 +48,28 @@ impl ThreadMappings {
         }
     }
 
-    /// The thread has mapped the buffer.
+    /// Returns whether the thread has mapped buffer `b`.
     pub fn has(&self, b: BufId) -> bool
         ensures { result ≡ is_member self.now.mapped b.0 }
     {
         self.mapped.has(b)
     }
 
-    /// The address space.
+    /// Returns the thread's address space.
     pub fn space(&self) -> &Space
         ensures { result.now ≡ self.now.regions }
     {
         &self.space
     }
 
-    /// Maps a buffer.
+    /// Maps buffer `b`.
     pub fn map(&mut self, b: BufId) -> Result<(), NoMemory>
         ensures { OnOk result ((d : marks.ThreadMappings) → IsThreadMappings self.old d → IsThreadMappings self.new (thread_mappings_after d (mark.Map b))) }
     {
         self.mapped.add(b)
     }
 
-    /// Unmaps it.
+    /// Unmaps buffer `b`.
     pub fn unmap(&mut self, b: BufId)
         ensures { (d : marks.ThreadMappings) → IsThreadMappings self.old d → IsThreadMappings self.new (thread_mappings_after d (mark.Unmap b)) }
     {
@@ -94,7 +94,7 @@ impl ThreadMappings {
         self.space.map(va, n, b, off, &mut steps)
     }
 
-    /// Takes `n` pages of the space from `va` on out of what is mapped.
+    /// Unmaps `n` pages of the space from `va` on.
     pub fn vunmap(&mut self, alloc: Global, va: u32, n: u32) -> Result<(), NoMemory>
         requires some { 1 ≤ n }
         requires inside { va + n ≤ 1048576 }

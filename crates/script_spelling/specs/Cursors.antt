@@ -10,11 +10,11 @@ pub record ArePlaced (script : Script) : Type 0 where
   pub order : are_in_order script.marks ≡ true
   pub placed : list_all (is_in_thread script) script.marks ≡ true
 
--- the mark follows so many commands of a thread
+-- the mark follows n commands of a thread
 abbrev pub is_at : ℕ → ℕ → Mark → Bool
 is_at thread n m = (m.thread == thread) && (m.after == n)
 
--- it stands there or farther on
+-- the mark follows n commands of a thread, or stands farther on
 abbrev pub is_from : ℕ → ℕ → Mark → Bool
 is_from thread n m = nat_lt thread m.thread || ((m.thread == thread) && nat_le n m.after)
 
@@ -22,7 +22,7 @@ is_from thread n m = nat_lt thread m.thread || ((m.thread == thread) && nat_le n
 abbrev pub marks_from : List Mark → ℕ → ℕ → List Mark
 marks_from marks thread n = filter (is_from thread n) marks
 
--- how many marks at the front stand at a place
+-- the number of marks at the front that follow n commands of a thread
 abbrev pub front_at : ℕ → ℕ → List Mark → ℕ
 front_at thread n [] = 0
 front_at thread n (m ∷ ms) = if is_at thread n m then front_at thread n ms + 1 else 0

@@ -8,7 +8,7 @@ use journal_model::{Command, Script};
 use text_line::{Line, mem_word, name_of, put_hex, put_hex_byte};
 use ttm_base::{BufId, Mem, NoMemory, Op};
 
-/// Puts the line of a command.
+/// Puts the line of `command` into `text`.
 pub(crate) fn put_command(
     text: &mut Line,
     script: &Script,
@@ -38,7 +38,7 @@ pub(crate) fn put_command(
     }
 }
 
-/// Puts the line of a command that names a buffer and no more.
+/// Puts the line of a command that names buffer `b` and no more into `text`.
 pub(crate) fn put_named(
     text: &mut Line,
     script: &Script,
@@ -125,7 +125,7 @@ fn put_ops(text: &mut Line, script: &Script, ops: &[Op]) -> Result<(), NoMemory>
     }
 }
 
-/// Puts each operation after a semicolon.
+/// Puts each operation into `text`, a semicolon before it.
 fn put_more_ops(text: &mut Line, script: &Script, ops: &[Op]) -> Result<(), NoMemory>
     ensures { OnOk result (text.new ≡ text.old ++ spaced_out (parted_out (map (op_words script.now) ops.now))) }
 {
@@ -180,7 +180,7 @@ fn put_op(text: &mut Line, script: &Script, op: Op) -> Result<(), NoMemory>
     }
 }
 
-/// Puts a fill of a named buffer.
+/// Puts a fill of the buffer named `name` into `text`.
 fn put_fill(text: &mut Line, name: &[u8], off: u32, len: u32, byte: u8) -> Result<(), NoMemory>
     ensures { OnOk result (text.new ≡ text.old ++ spaced_out (codes "fill" ∷ name.now ∷ decimal off ∷ decimal len ∷ hex_byte byte ∷ [])) }
 {
@@ -189,7 +189,7 @@ fn put_fill(text: &mut Line, name: &[u8], off: u32, len: u32, byte: u8) -> Resul
     put_hex_byte(text, byte)
 }
 
-/// Puts an operation on a range of a named buffer.
+/// Puts an operation on a range of the buffer named `name` into `text`.
 fn put_range(text: &mut Line, word: &[u8], name: &[u8], off: u32, len: u32) -> Result<(), NoMemory>
     ensures { OnOk result (text.new ≡ text.old ++ spaced_out (word.now ∷ name.now ∷ decimal off ∷ decimal len ∷ [])) }
 {
@@ -199,7 +199,7 @@ fn put_range(text: &mut Line, word: &[u8], name: &[u8], off: u32, len: u32) -> R
     text.number(u64::from(len))
 }
 
-/// Puts an operation on two ranges of named buffers.
+/// Puts an operation on two ranges of named buffers into `text`.
 fn put_pair(
     text: &mut Line,
     word: &[u8],

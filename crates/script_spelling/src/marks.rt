@@ -16,14 +16,14 @@ use journal_model::{Command, Mark, MarkKind, Script, VOp};
 use text_line::{Line, name_of, put_hex_byte};
 use ttm_base::NoMemory;
 
-/// The mark follows `n` commands of a thread.
+/// Returns whether `mark` follows `n` commands of the thread.
 fn is_at(mark: &Mark, thread: usize, n: usize) -> bool
     ensures { result ≡ cursors.is_at thread n mark.now }
 {
     mark.thread as usize == thread && mark.after as usize == n
 }
 
-/// How many marks at the front follow `n` commands of a thread.
+/// Counts the marks at the front that follow `n` commands of the thread.
 fn count_at(marks: &[Mark], thread: usize, n: usize) -> usize
     ensures { result ≡ front_at thread n marks.now }
 {
@@ -37,7 +37,7 @@ fn count_at(marks: &[Mark], thread: usize, n: usize) -> usize
     count
 }
 
-/// Cuts off the marks after `n` commands of a thread, of the marks from there on.
+/// Splits off the marks after `n` commands of the thread. `rest` are the marks from there on.
 pub(crate) fn split_at_place<'a>(
     script: &Script,
     rest: &'a [Mark],
@@ -52,7 +52,7 @@ pub(crate) fn split_at_place<'a>(
     rest.split_at(count_at(rest, thread, n))
 }
 
-/// Puts the marks that have lines of their own.
+/// Puts those of `marks` that have lines of their own into `text`.
 pub(crate) fn put_marks(text: &mut Line, script: &Script, marks: &[Mark]) -> Result<(), NoMemory>
     ensures { OnOk result (text.new ≡ text.old ++ flat_map (λ m. mark_line script.now m.kind) marks.now) }
 {
@@ -95,7 +95,7 @@ fn put_vunmap(text: &mut Line, va: u32, n: u32) -> Result<(), NoMemory>
     text.end_line()
 }
 
-/// Puts a command as the marks above it say that it is written.
+/// Puts `command` into `text` in the way in which the marks above it say that it is written.
 pub(crate) fn put_written(
     text: &mut Line,
     script: &Script,
@@ -116,7 +116,7 @@ pub(crate) fn put_written(
     }
 }
 
-/// The operations with addresses of the command below the marks.
+/// Returns the operations with addresses of the command below the marks, or `None` if it has none.
 fn addressed_in(marks: &[Mark]) -> Option<&[VOp]>
     ensures { option_map (λ ops. ops.now) result ≡ slice_get (filter_map addressed (kinds marks.now)) 0 }
 {
@@ -134,14 +134,14 @@ fn is_mapped(mark: &Mark) -> bool
     matches!(mark.kind, MarkKind::Mapped)
 }
 
-/// The command below the marks goes through a mapping.
+/// Returns whether the command below the marks goes through a mapping.
 fn is_mapped_in(marks: &[Mark]) -> bool
     ensures { result ≡ list_any (λ m. kinds_of.is_mapped m.kind) marks.now }
 {
     marks.iter().any(|m| is_mapped(m))
 }
 
-/// Puts a read as a peek, and a write as a poke.
+/// Puts a read into `text` as a peek, and a write as a poke.
 fn put_mapped(text: &mut Line, script: &Script, command: &Command) -> Result<(), NoMemory>
     ensures { OnOk result (text.new ≡ text.old ++ line (mapped_words script.now command.now)) }
 {
@@ -154,7 +154,7 @@ fn put_mapped(text: &mut Line, script: &Script, command: &Command) -> Result<(),
     }
 }
 
-/// Puts a job as it was written with addresses.
+/// Puts a job into `text` as it was written with addresses.
 fn put_addressed(
     text: &mut Line,
     script: &Script,
@@ -190,7 +190,7 @@ fn put_ops(text: &mut Line, ops: &[VOp]) -> Result<(), NoMemory>
     }
 }
 
-/// Puts each operation after a semicolon.
+/// Puts each operation into `text`, a semicolon before it.
 fn put_more_ops(text: &mut Line, ops: &[VOp]) -> Result<(), NoMemory>
     ensures { OnOk result (text.new ≡ text.old ++ spaced_out (parted_out (map vop_words ops.now))) }
 {

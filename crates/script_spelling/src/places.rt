@@ -6,8 +6,8 @@ ghost use Rattle.text_line.specs.Spaced.{spaced_out};
 use text_line::{Line, mem_word};
 use ttm_base::{FlaggedPlace, NoMemory, Place};
 
-/// The places of a buffer that one word of its line names: those that are tried first, those that are tried under
-/// pressure, or all of them, with their flags.
+/// The places of a buffer that one word of its line names: those that are tried first, those that are tried under pressure, or all of them,
+/// with their flags.
 #[derive(Clone, Copy)]
 pub(crate) enum Part {
     First,
@@ -15,7 +15,7 @@ pub(crate) enum Part {
     All,
 }
 
-/// Puts the words of a buffer's places. Version 1 has two lists, and any other has one list with flags.
+/// Puts the words of a buffer's places into `text`. Version 1 has two lists, and any other has one list with flags.
 pub(crate) fn put_placement(
     text: &mut Line,
     version: u32,
@@ -31,7 +31,7 @@ pub(crate) fn put_placement(
     }
 }
 
-/// Puts the name of a part and its places.
+/// Puts the name of a part and its places into `text`.
 fn put_part(
     text: &mut Line,
     label: &[u8],
@@ -96,7 +96,7 @@ fn put_place(text: &mut Line, place: Place) -> Result<(), NoMemory>
     put_flag(text, place.contig, b"+contig")
 }
 
-/// Puts a range of pages, unless it is all.
+/// Puts a range of pages into `text`, unless it is all.
 fn put_reach(text: &mut Line, first: u32, last: u32) -> Result<(), NoMemory>
     ensures { OnOk result (text.new ≡ text.old ++ reach_word first last) }
 {
@@ -109,7 +109,7 @@ fn put_reach(text: &mut Line, first: u32, last: u32) -> Result<(), NoMemory>
     text.put_number(u64::from(last))
 }
 
-/// Puts a word where it is wanted.
+/// Puts `word` into `text` if it is wanted.
 fn put_flag(text: &mut Line, is_wanted: bool, word: &[u8]) -> Result<(), NoMemory>
     ensures { OnOk result (text.new ≡ text.old ++ flag is_wanted word.now) }
 {

@@ -14,7 +14,7 @@ use std::alloc::Global;
 use text_line::{Line, put_actor};
 use ttm_base::{Actor, NoMemory};
 
-/// The bytes of a script.
+/// Returns the bytes of the spelling of `script`.
 pub fn write_script(alloc: Global, script: &Script) -> Result<Vec<u8>, NoMemory>
     requires placed { ArePlaced script.now }
     ensures { IfOk result (λ bytes. bytes.items ≡ spelling script.now) }
@@ -28,7 +28,7 @@ pub fn write_script(alloc: Global, script: &Script) -> Result<Vec<u8>, NoMemory>
     Ok(text.into_bytes())
 }
 
-/// Puts the lines above the buffers.
+/// Puts the lines above the buffers into `text`.
 fn put_head(text: &mut Line, script: &Script) -> Result<(), NoMemory>
     ensures { OnOk result (text.new ≡ text.old ++ head_lines script.now) }
 {
@@ -40,7 +40,7 @@ fn put_head(text: &mut Line, script: &Script) -> Result<(), NoMemory>
     put_count(text, b"engines", script.sizes.engines)
 }
 
-/// Puts a line of one word.
+/// Puts a line of `word` into `text`.
 fn put_heading(text: &mut Line, word: &[u8]) -> Result<(), NoMemory>
     ensures { OnOk result (text.new ≡ text.old ++ line (word.now ∷ [])) }
 {
@@ -48,7 +48,7 @@ fn put_heading(text: &mut Line, word: &[u8]) -> Result<(), NoMemory>
     text.end_line()
 }
 
-/// Puts a line of a word and a number.
+/// Puts a line of `word` and `count` into `text`.
 fn put_count(text: &mut Line, word: &[u8], count: u32) -> Result<(), NoMemory>
     ensures { OnOk result (text.new ≡ text.old ++ line (word.now ∷ decimal count ∷ [])) }
 {
@@ -88,7 +88,7 @@ fn put_buffer(text: &mut Line, version: u32, decl: &Decl) -> Result<(), NoMemory
     text.end_line()
 }
 
-/// Puts the words between `buffer` and the places.
+/// Puts the words between `buffer` and the places into `text`.
 fn put_shape(text: &mut Line, decl: &Decl) -> Result<(), NoMemory>
     ensures { OnOk result (text.new ≡ text.old ++ spaced_out (shape_words decl.now)) }
 {
@@ -123,7 +123,7 @@ fn put_threads(text: &mut Line, script: &Script) -> Result<(), NoMemory>
     Ok(())
 }
 
-/// Puts the lines of a thread, whose marks come first. Answers the marks after them.
+/// Puts the lines of a thread into `text`. `marks` begin with the thread's. Returns the marks after them.
 fn put_thread<'a>(
     text: &mut Line,
     script: &Script,
@@ -140,7 +140,8 @@ fn put_thread<'a>(
     put_commands(text, script, thread, commands, marks)
 }
 
-/// Puts the commands of a thread, each after the marks above it, and the marks after them.
+/// Puts the commands of a thread into `text`, each after the marks above it, and the marks after them. Returns the marks of the next
+/// threads.
 fn put_commands<'a>(
     text: &mut Line,
     script: &Script,
@@ -182,7 +183,7 @@ fn put_turn_line(text: &mut Line, actors: &[Actor]) -> Result<(), NoMemory>
     text.end_line()
 }
 
-/// Puts each actor after a space.
+/// Puts each actor into `text`, a space before it.
 fn put_actors(text: &mut Line, actors: &[Actor]) -> Result<(), NoMemory>
     ensures { OnOk result (text.new ≡ text.old ++ spaced_out (map actor_word actors.now)) }
 {

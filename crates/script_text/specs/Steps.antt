@@ -1,4 +1,4 @@
--- What holds between two lines, and what a step answers.
+-- What holds between two lines, and what a step tells.
 use Rattle.std.specs.Prelude.{◌≡◌, ℕ, ◌≤◌, Bool, List, true, false, Option, Some, None, Result, Ok, Err, is_none, length, nat_le}
 use Rattle.std.specs.List.{list_all}
 use Rattle.journal_model.specs.declared.script.Script.{Script}
@@ -18,11 +18,11 @@ use Rattle.script_rules.specs.script_mappings.ThreadMappingLists.{Seen, IsThread
 use Rattle.script_text.specs.declared.ScriptFault.{ScriptFault}
 use Rattle.script_text.specs.declared.ScriptFault.TheVariants as fault
 
--- a buffer may have so many pages
+-- a buffer has no more pages than it may have
 abbrev pub has_few_pages : Decl → Bool
 has_few_pages d = nat_le d.pages 4096
 
--- the mark stands in one of so many threads
+-- the mark stands in one of this many threads
 abbrev pub is_up_to : ℕ → Mark → Bool
 is_up_to threads m = nat_le m.thread threads
 
@@ -73,7 +73,7 @@ abbrev pub Leads : Option ℕ → Progress → Result Progress ℕ → Type 0
 Leads None new after = after ≡ Ok new
 Leads (Some rule) new after = after ≡ Err rule
 
--- what reading answers, unless memory ran out
+-- what reading tells, unless memory ran out
 abbrev pub Gives : Result Script ScriptFault → Result Script (ℕ × ℕ) → Type 0
 Gives (Ok script) read = read ≡ Ok script
 Gives (Err fault.NoMemory) read = Unit {0}

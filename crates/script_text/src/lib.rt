@@ -22,8 +22,8 @@ mod values;
 
 use crate::reader::{Known, is_done, start, take_line};
 
-/// Why bytes weren't read: their first broken line, counted from 1, and on it the least broken rule; or memory ran out.
-/// Line 0 is the whole text, where it has more than 1,048,576 bytes (rule 1).
+/// The reason why bytes weren't read: their first broken line, counted from 1, and on it the least broken rule; or memory ran out. Line 0
+/// is the whole text, where it has more than 1,048,576 bytes (rule 1).
 #[derive(Clone, Copy, Debug, PartialEq, Eq)]
 pub enum ScriptFault {
     Bad { line: u32, rule: u32 },
@@ -69,7 +69,7 @@ fn read_all(alloc: Global, bytes: &[u8]) -> Result<Script, ScriptFault>
     read_lines(alloc, bytes)
 }
 
-/// Reads `bytes` as a script, or answers its first broken line and on it the least broken rule.
+/// Reads `bytes` as a script, or returns its first broken line and on it the least broken rule.
 pub fn read_script(alloc: Global, bytes: &[u8]) -> Result<Script, ScriptFault>
     // What is read is what the lines say, and the bytes are its spelling.
     ensures ok { IfOk result (λ script. script_of bytes.now ≡ Ok script) }

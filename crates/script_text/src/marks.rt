@@ -23,7 +23,7 @@ use std::alloc::Global;
 use ttm_base::limits::MAX_OP_BYTES;
 use ttm_base::{BufId, NoMemory};
 
-/// A mark after the commands so far of the thread at work.
+/// Returns a mark of this `kind` after the commands so far of the thread at work.
 fn mark_of(progress: &Progress, kind: MarkKind) -> Mark
     requires threads { length progress.now.script.threads ≤ 16 }
     requires commands { length (commands_of progress.now.script (length progress.now.script.threads)) ≤ 4096 }
@@ -51,7 +51,7 @@ fn put_mark(progress: &mut Progress, kind: MarkKind) -> Result<(), NoMemory>
     Ok(())
 }
 
-/// Puts a mark that has a line of its own.
+/// Adds a mark that has a line of its own.
 pub fn put_mark_line(progress: &mut Progress, kind: MarkKind) -> Result<(), NoMemory>
     requires threads { length progress.old.script.threads ≤ 16 }
     requires commands { length (commands_of progress.old.script (length progress.old.script.threads)) ≤ 4096 }
@@ -63,7 +63,7 @@ pub fn put_mark_line(progress: &mut Progress, kind: MarkKind) -> Result<(), NoMe
     Ok(())
 }
 
-/// Puts the mark of a peek or poke.
+/// Adds the mark of a peek or poke. An access without a mapping has none.
 pub fn put_access(progress: &mut Progress, access: Access) -> Result<(), NoMemory>
     requires threads { length progress.old.script.threads ≤ 16 }
     requires commands { length (commands_of progress.old.script (length progress.old.script.threads)) ≤ 4096 }
@@ -76,7 +76,7 @@ pub fn put_access(progress: &mut Progress, access: Access) -> Result<(), NoMemor
     }
 }
 
-/// The job by name, whose pages are all mapped.
+/// Returns the job by name, whose pages are all mapped.
 fn job_of(alloc: Global, thread_mappings: &ThreadMappings, ops: &[VOp]) -> Result<Ops, NoMemory>
     requires { list_all is_inside ops.now ≡ true }
     ensures { IfOk result (λ job. job ≡ unwrap_or (job_by_name thread_mappings.now.regions ops.now) []) }
@@ -87,7 +87,7 @@ fn job_of(alloc: Global, thread_mappings: &ThreadMappings, ops: &[VOp]) -> Resul
     }
 }
 
-/// The lengths of the operations, which fit.
+/// Returns the sum of the lengths of `ops` in bytes, which is no more than `left`.
 fn lens(left: u64, ops: &[VOpWord]) -> u64
     requires { nat_lt left (sum_by len_of_vop_word ops.now) ≡ false }
     ensures { result ≡ sum_by len_of_vop_word ops.now }
@@ -98,7 +98,7 @@ fn lens(left: u64, ops: &[VOpWord]) -> u64
     }
 }
 
-/// Puts a job that was written with addresses.
+/// Adds a job that was written with addresses.
 pub fn put_vsubmit(
     alloc: Global,
     thread_mappings: &ThreadMappings,
@@ -151,7 +151,7 @@ fn vunmap(
     thread_mappings.vunmap(alloc, zero_of(va), zero_of(n))
 }
 
-/// What the thread at work has mapped after a line that breaks no rule.
+/// Makes `thread_mappings` what the thread at work has mapped after `line`, which breaks no rule.
 pub fn follow(
     alloc: Global,
     thread_mappings: &mut ThreadMappings,

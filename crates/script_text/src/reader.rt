@@ -157,7 +157,7 @@ fn put_thread(alloc: Global, progress: &mut Progress) -> Result<(), NoMemory>
     Ok(())
 }
 
-/// The lengths of the operations, which fit.
+/// Returns the sum of the lengths of `ops` in bytes, which is no more than `left`.
 fn lens(left: u64, ops: &[OpWord]) -> u64
     requires { nat_lt left (sum_by len_of_word ops.now) ≡ false }
     ensures { result ≡ sum_by len_of_word ops.now }
@@ -310,7 +310,7 @@ fn put_vunmap(progress: &mut Progress, va: Option<u32>, n: Option<u32>) -> Resul
     put_mark_line(progress, kind)
 }
 
-/// Takes a line that breaks no rule, beside what it maps.
+/// Takes `line`, which breaks no rule, beside what it maps.
 fn accept(
     alloc: Global,
     names: &mut Names,
@@ -391,7 +391,7 @@ fn front_of(text: &[u8]) -> &[u8]
     &text[..text.len().saturating_sub(1)]
 }
 
-/// A line is empty, has other bytes than those that show, or lacks its line feed.
+/// Returns whether a line is empty, has other bytes than those that show, or lacks its line feed.
 fn breaks_line(text: &[u8]) -> bool
     ensures { result ≡ breaks_text text.now }
 {
@@ -407,7 +407,7 @@ fn keyword_of_line(words: &[Bytes]) -> Keyword
     }
 }
 
-/// Takes the words of a line, or answers the least rule that they break.
+/// Takes the words of a line, or returns the least rule that they break.
 fn take_words(
     alloc: Global,
     known: &mut Known,
@@ -441,7 +441,7 @@ fn take_words(
     Ok(None)
 }
 
-/// Takes a line, or answers the least rule that it breaks.
+/// Takes a line, or returns the least rule that it breaks.
 pub fn take_line(
     alloc: Global,
     known: &mut Known,
@@ -461,7 +461,7 @@ pub fn take_line(
     take_words(alloc, known, progress, words.items())
 }
 
-/// Before the first line.
+/// Returns the progress before the first line.
 pub fn start(alloc: Global) -> Progress
     ensures { result ≡ nothing_read }
 {
@@ -487,7 +487,7 @@ pub fn start(alloc: Global) -> Progress
     }
 }
 
-/// The last line has come.
+/// Returns whether the last line has come.
 pub fn is_done(phase: Phase) -> bool
     ensures { result ≡ is_behind_end phase }
 {

@@ -2,7 +2,7 @@
 use Rattle.std.specs.Prelude.{ℕ, ◌+◌, [], ◌∷◌, ◌==◌, if◌then◌else◌}
 use Rattle.journal_model.specs.scripts.Words.{Text}
 
--- how many bytes the first line has, with its line feed
+-- the length of the first line in bytes, with its line feed
 abbrev pub line_len : Text → ℕ
 line_len [] = 0
 line_len (b ∷ bs) = if b == 10 then 1 else line_len bs + 1

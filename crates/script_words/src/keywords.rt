@@ -69,7 +69,7 @@ fn command_keyword(word: &[u8]) -> Keyword
     }
 }
 
-/// The keyword of a line's first word.
+/// Returns the keyword that `word`, the first of a line, tells.
 pub fn keyword(word: &[u8]) -> Keyword
     ensures { result ≡ keyword_of word.now }
 {
@@ -149,7 +149,7 @@ fn is_of_version_two(keyword: Keyword) -> bool
     )
 }
 
-/// A line with this keyword may come in this phase of a script of this version.
+/// Returns whether a line with this keyword may come in this phase of a script of this version.
 pub fn can_come(version: u32, phase: Phase, keyword: Keyword) -> bool
     ensures { result ≡ may_come version phase keyword }
 {

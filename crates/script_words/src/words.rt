@@ -15,7 +15,7 @@ const MOST: u64 = 1 << 40;
 
 const MOST_LEN: u32 = 16_777_216;
 
-/// A text of its own.
+/// Returns a copy of `text`.
 pub fn owned(alloc: Global, text: &[u8]) -> Result<Bytes, NoMemory>
     ensures { IfOk result (λ list. list ≡ text.now) }
 {
@@ -26,7 +26,7 @@ pub fn owned(alloc: Global, text: &[u8]) -> Result<Bytes, NoMemory>
     Ok(list)
 }
 
-/// The word is this text.
+/// Returns whether `word` is `text`.
 pub fn is(word: &[u8], text: &[u8]) -> bool
     ensures { result ≡ bytes_eq word.now text.now }
 {
@@ -54,14 +54,14 @@ fn lacks_leading_zero(word: &[u8]) -> bool
     }
 }
 
-/// A number in plain decimals.
+/// Returns whether `word` is a number in plain decimals.
 pub fn is_plain_number(word: &[u8]) -> bool
     ensures { result ≡ is_plain word.now }
 {
     lacks_leading_zero(word) && are_digits(word)
 }
 
-/// The number of a word of digits; numbers above a trillion count as that.
+/// Returns the number that `word`, a word of digits, tells. Numbers above 2^40 count as that.
 fn value_of(word: &[u8]) -> u64
     ensures { result ≡ min (read_on 0 word.now) 1099511627776 }
 {
@@ -72,7 +72,7 @@ fn value_of(word: &[u8]) -> u64
     n
 }
 
-/// The number, where it is plain and in its range.
+/// Returns the number that `word` tells, if it is plain and from `low` to `high`.
 pub fn number(low: u32, high: u32, word: &[u8]) -> Option<u32>
     ensures { result ≡ number_in low high word.now }
 {
@@ -96,14 +96,14 @@ pub fn group(word: &[u8]) -> Option<Option<u32>>
     }
 }
 
-/// An offset or a length.
+/// Returns the offset or length in bytes that `word` tells, if it is one.
 pub fn offset(word: &[u8]) -> Option<u32>
     ensures { result ≡ offset_of word.now }
 {
     number(0, MOST_LEN, word)
 }
 
-/// An address of a space.
+/// Returns the address of a space that `word` tells, if it is one.
 pub fn address(word: &[u8]) -> Option<u64>
     ensures { result ≡ address_of word.now }
 {
@@ -127,7 +127,7 @@ fn value_of_hex(c: u8) -> u8
     if c < b'a' { c - b'0' } else { c - b'a' + 10 }
 }
 
-/// A byte of two digits.
+/// Returns the byte that `word` tells in two hexadecimal digits, if it is one.
 pub fn byte(word: &[u8]) -> Option<u8>
     ensures { result ≡ byte_in_hex word.now }
 {
@@ -210,7 +210,7 @@ fn are_hex_digits(word: &[u8]) -> bool
     word.iter().all(|c| is_hex_digit(*c))
 }
 
-/// The bytes of pairs of lower-case digits.
+/// Returns the bytes that `word` tells in pairs of lower-case hexadecimal digits, or `None` if it tells none.
 pub fn bytes(alloc: Global, word: &[u8]) -> Result<Option<Bytes>, NoMemory>
     ensures { IfOk result (λ bytes. bytes ≡ bytes_in_hex word.now) }
 {

@@ -9,13 +9,13 @@ pub use Rattle.device_core.specs.Kept.{Kept}
 abbrev pub NotBefore : Script → ℕ → Type 0
 NotBefore script n = (m : ℕ) → m < n → is_complete script (scheduled script m) ≡ false
 
--- the least number of turns that makes the journal complete, or all that are allowed
+-- `n` is the least number of turns that makes the journal complete, or all that are allowed
 pub record EndsAfter (script : Script) (allowed n : ℕ) : Type 0 where
   pub not_before : NotBefore script n
   pub within : n ≤ allowed
   pub ends : (is_complete script (scheduled script n) ≡ true) ⊎ (n ≡ allowed)
 
--- the device is where some number of turns leads, at most those allowed
+-- the device stands where some number of turns leads, at most those allowed
 pub record HasTaken (script : Script) (allowed : ℕ) (k : Kept) : Type 0 where
   pub turns : ℕ
   pub few : turns ≤ allowed

@@ -1,4 +1,4 @@
-//! After how many turns a run is over.
+//! The number of turns after which a run is over.
 
 ghost use Rattle.std.specs.Prelude.{◌≡◌, min, sum_by};
 ghost use Rattle.journal_model.specs.statements.Scheduled.{packets_in, turn_limit as limit_of};
@@ -6,7 +6,7 @@ ghost use Rattle.journal_model.specs.statements.Scheduled.{packets_in, turn_limi
 use journal_model::{Command, Script};
 use op_cutting::packet_count;
 
-/// Counts into how many packets the operations of a command are cut. Saturates at `u64::MAX`.
+/// Returns into how many packets the operations of `command` are cut. Saturates at `u64::MAX`.
 fn packets_of_command(command: &Command) -> u64
     ensures { result ≡ min (packets_in command.now) 18446744073709551615 }
 {
@@ -19,7 +19,7 @@ fn packets_of_command(command: &Command) -> u64
     n
 }
 
-/// Counts into how many packets the operations of these commands are cut. Saturates at `u64::MAX`.
+/// Returns into how many packets the operations of `commands` are cut. Saturates at `u64::MAX`.
 fn packets_of_commands(commands: &[Command]) -> u64
     ensures { result ≡ min (sum_by packets_in commands.now) 18446744073709551615 }
 {
@@ -30,7 +30,7 @@ fn packets_of_commands(commands: &[Command]) -> u64
     n
 }
 
-/// Gives after how many turns a run without a limit of its own is over. Saturates at `u64::MAX`.
+/// Returns after how many turns a run without a limit of its own is over. Saturates at `u64::MAX`.
 pub fn turn_limit(script: &Script) -> u64
     ensures { result ≡ min (limit_of script.now) 18446744073709551615 }
 {

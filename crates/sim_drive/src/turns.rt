@@ -8,7 +8,7 @@ use journal_model::TurnLine;
 use std::alloc::Global;
 use ttm_base::{Actor, ItemList, NoMemory};
 
-/// The actors of all schedule lines, in order.
+/// Returns the actors of all schedule lines, in order.
 fn actors_of(alloc: Global, lines: &[TurnLine]) -> Result<ItemList<Actor>, NoMemory>
     ensures { IfOk result (λ actors. actors ≡ flat_map (λ l. l) lines.now) }
 {
@@ -19,14 +19,14 @@ fn actors_of(alloc: Global, lines: &[TurnLine]) -> Result<ItemList<Actor>, NoMem
     Ok(actors)
 }
 
-/// Whose turn it is in the schedule, unless it is at its end.
+/// Returns the actor whose turn `turn` is in the schedule, or None at its end.
 fn scheduled_at(schedule: &[Actor], turn: u64) -> Option<Actor>
     ensures { result ≡ slice_get schedule.now turn }
 {
     schedule.get(turn as usize).copied()
 }
 
-/// Takes a turn: that of the schedule's actor, or where the schedule is at its end, of the first actor that has an entry.
+/// Takes a turn: that of the schedule's actor, or, at the end of the schedule, of the first actor that has an entry.
 fn take_turn(device: &mut Device, schedule: &[Actor], turn: u64) -> Result<(), NoMemory>
     requires schedule { schedule.now ≡ scheduled_actors device.old.script }
     requires journal { device.old.journal ≡ scheduled device.old.script turn }
@@ -45,7 +45,7 @@ fn take_turn(device: &mut Device, schedule: &[Actor], turn: u64) -> Result<(), N
     Ok(())
 }
 
-/// Runs a device that hasn't begun until its journal is complete, for as many turns as are allowed, and answers how many it took.
+/// Runs `device`, which hasn't begun, until its journal is complete, for at most `allowed` turns, and returns how many it took.
 ///
 /// # Errors
 ///

@@ -19,7 +19,7 @@ use Rattle.simulator.specs.Outcomes.{status_of, text_of}
 use Rattle.check_program.specs.Finds.{Finds}
 use Rattle.check_program.specs.Ends.{EndsChecked}
 
--- the turns that are allowed: those asked for, or the limit of the script, as far as 64 bits hold it
+-- the number of turns that is allowed: the one asked for, or the limit of the script, as far as 64 bits hold it
 abbrev pub allowed : Option ℕ → Script → ℕ
 allowed turns script = unwrap_or turns (min (turn_limit script) 18446744073709551615)
 
@@ -30,18 +30,18 @@ pub record IsRunOf (script : Script) (turns : Option ℕ) (k : Kept) (taken : �
   pub legal : IsLegal script (scheduled script taken)
   pub ends : EndsAfter script (allowed turns script) taken
 
--- a run of the script came out
+-- the outcome is a run of the script
 abbrev pub ComesRun : Script → Option ℕ → Outcome → Type 0
 ComesRun script turns (outcome.Ran k taken) = IsRunOf script turns k taken
 ComesRun script turns o = ⊥
 
--- the source gave this script, which was run
+-- the source gave a script, which was run
 pub record HasRun (source : Edge) (turns : Option ℕ) (k : Kept) (taken : ℕ) : Type 0 where
   pub script : Script
   pub gave : GaveScript source script
   pub ran : IsRunOf script turns k taken
 
--- what the simulator comes to
+-- the outcome of a simulation, by what the source gave
 abbrev pub ComesSim : Option ℕ → Edge → Outcome → Type 0
 ComesSim turns source outcome.ReadFault = WasCutOff source 1048576
 ComesSim turns source (outcome.BadScript n rule) = GaveFault source n rule
@@ -51,12 +51,12 @@ ComesSim turns source outcome.Help = ⊥
 ComesSim turns source outcome.Version = ⊥
 ComesSim turns source (outcome.Judged f) = ⊥
 
--- what a script and the report after it come to
+-- the outcome of a check is a finding on a script and the report after it
 abbrev pub ComesChecked : Edge → Outcome → Type 0
 ComesChecked source (outcome.Judged f) = Finds source f
 ComesChecked source o = ⊥
 
--- what is asked and the source come to
+-- the outcome of what is asked, by what the source gave
 abbrev pub Comes : Option Form → Edge → Outcome → Type 0
 Comes None source o = (o ≡ outcome.Usage) × IsUntouched source
 Comes (Some form.Help) source o = (o ≡ outcome.Help) × IsUntouched source
@@ -64,8 +64,8 @@ Comes (Some form.Version) source o = (o ≡ outcome.Version) × IsUntouched sour
 Comes (Some (form.Sim turns)) source o = ComesSim turns source o
 Comes (Some form.Check) source o = ComesChecked source o
 
--- The status: that of the outcome where its text was written whole; else a write failed or memory ran out, and a front of the
--- text was written, or nothing where memory ran out before there was an outcome.
+-- The status is that of the outcome where its text was written whole; else a write failed or memory ran out, and a front of the text was written, or
+-- nothing where memory ran out before there was an outcome.
 pub data EndsWith (comes : Outcome → Type 0) (source sink : Edge) : Status → Type 0 where
   told : (o : Outcome) → comes o → IsWritten sink (text_of o) → EndsWith comes source sink (status_of o)
   broken : (o : Outcome) → comes o → IsBroken sink (text_of o) → EndsWith comes source sink status.WriteFault
@@ -77,12 +77,12 @@ pub record IsWellRun (asked : Option Form) (k : Kept) : Type 0 where
   pub laws : KeepsLaws k.script k.journal
   pub complete : asked ≡ Some (form.Sim None) → is_complete k.script k.journal ≡ true
 
--- the same of every outcome
+-- what holds of the journal of every outcome
 abbrev pub IsWell : Option Form → Outcome → Type 0
 IsWell asked (outcome.Ran k taken) = IsWellRun asked k
 IsWell asked o = Unit {0}
 
--- what is asked and the source come to, with what holds of it
+-- the outcome of what is asked, with what holds of its journal
 abbrev pub ComesWell : Option Form → Edge → Outcome → Type 0
 ComesWell asked source o = Comes asked source o × IsWell asked o
 

@@ -22,13 +22,13 @@ pub record GaveFault (source : Edge) (n rule : ℕ) : Type 0 where
   pub read : WasReadWhole source bytes ⊎ (WasReadTo source 1048577 × (length bytes ≡ 1048577))
   pub first : first_fault bytes ≡ Some (n, rule)
 
--- what was made of it
+-- the input is what the source gave
 abbrev pub Gave : Edge → Input → Type 0
 Gave source (input.Read script) = GaveScript source script
 Gave source (input.Bad n rule) = GaveFault source n rule
 Gave source input.Failed = WasCutOff source 1048576
 
--- what bytes say
+-- the input is what the bytes say
 abbrev pub Says : Text → Input → Type 0
 Says bytes (input.Read script) = (script_of bytes ≡ Ok script) × IsScript bytes script
 Says bytes (input.Bad n rule) = first_fault bytes ≡ Some (n, rule)

@@ -10,6 +10,6 @@ use Rattle.sim_drive.specs.Ends.{Kept}
 abbrev pub HasItsBytes : Kept → Parts → Type 0
 HasItsBytes k p = AreStores k.script.sizes (aperture (state_of k.script k.journal).core) (stores_of k.script k.journal) p.stores
 
--- and so have the slots, held or free
+-- the slots, held or free, have the bytes
 abbrev pub HasItsSlots : Kept → Parts → Type 0
 HasItsSlots k p = AreSlots k.script.sizes.swap (held_slots (state_of k.script k.journal).core) (stores_of k.script k.journal) p.swap

@@ -11,11 +11,11 @@ use Rattle.check_program.specs.Finds as finds
 use Rattle.simulator.specs.declared.outcome.Outcome.{Outcome}
 use Rattle.simulator.specs.declared.outcome.Outcome.TheVariants as outcome
 
--- of a device that has run
+-- the status of a device that has run
 abbrev pub status_of_run : Kept → Status
 status_of_run k = if is_complete k.script k.journal then status.Done else status.Unfinished
 
--- the status, if the text is written
+-- the status of the outcome, if its text is written
 abbrev pub status_of : Outcome → Status
 status_of outcome.Usage = status.Usage
 status_of outcome.Help = status.Done
@@ -25,7 +25,7 @@ status_of (outcome.BadScript n rule) = status.BadScript
 status_of (outcome.Ran k turns) = status_of_run k
 status_of (outcome.Judged f) = finds.status_of f
 
--- what --help says
+-- the text of --help
 abbrev pub help_text : Text
 help_text =
     line (codes "Runs a script of a graphics memory manager (TTM), and reports each step." ∷ [])
@@ -44,13 +44,13 @@ help_text =
     ++ line (codes "5 (a write failed), 6 (no memory), 7 (not over after N turns) or 8 (the report isn't right)." ∷ [])
     ++ line (codes "Scripts and reports are described in docs/SPECIFICATION.md." ∷ [])
 
--- the report, after a line that names the turns where it isn't complete
+-- the text of a run: the report, after a line that names the turns where it isn't complete
 abbrev pub run_text : Kept → ℕ → Text
 run_text k turns =
     if is_complete k.script k.journal then report k.script k.journal
     else line (codes "unfinished" ∷ decimal turns ∷ []) ++ report k.script k.journal
 
--- the text that is due
+-- the text of an outcome
 abbrev pub text_of : Outcome → Text
 text_of outcome.Usage = line (codes "usage" ∷ [])
 text_of outcome.Help = help_text

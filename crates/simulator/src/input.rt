@@ -9,11 +9,11 @@ use std::alloc::Global;
 use ttm_base::NoMemory;
 use ttm_base::limits::MAX_SCRIPT_BYTES;
 
-/// What a source gives.
+/// The result of reading a source.
 #[derive(Drop)]
 pub enum Input {
     Read(Script),
-    /// The first broken line, and on it the least broken rule.
+    /// A broken script: the first broken line, and on it the least broken rule.
     Bad { line: u32, rule: u32 },
     /// A read failed.
     Failed,
@@ -29,7 +29,7 @@ fn parsed(alloc: Global, bytes: &[u8]) -> Result<Input, NoMemory>
     }
 }
 
-/// Reads all bytes of a source, at most one more than a script can have.
+/// Reads all bytes of `source`, at most one more than a script can have, and the script in them.
 pub fn read_input<S: Source>(alloc: Global, source: &mut S) -> Result<Input, NoMemory>
     ensures gave { IfOk result (Gave (record { before = S.left source.old; after = S.left source.new; faults_before = S.faults source.old; faults_after = S.faults source.new })) }
     ensures faults { OnErr result (S.faults source.new ≡ S.faults source.old) }

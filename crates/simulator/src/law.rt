@@ -6,8 +6,8 @@ ghost use Rattle.simulator.specs.Lawful.{HasItsBytes, HasItsSlots};
 use room_representation::Parts;
 use sim_drive::Device;
 
-/// What holds of each device, whatever turns it has taken, and the parts of which it holds: the journal is legal and transparent, and
-/// keeps the other laws; VRAM, frames and slots, held or free, have the bytes that the journal leads to.
+/// Returns the parts of `device`, with what holds of each device, whatever turns it has taken: the journal is legal and transparent, and keeps the
+/// other laws; VRAM, frames and slots, held or free, have the bytes that the journal leads to.
 #[tactic(auto, using(crate::proofs::DeviceLaws::laws_of, crate::proofs::DeviceLaws::bytes_of, crate::proofs::DeviceLaws::slots_of))]
 pub fn lawful_parts(device: &Device) -> &Parts
     ensures legal { IsLegal device.now.script device.now.journal }

@@ -1,4 +1,4 @@
-//! The simulator from words and bytes to a report and a status.
+//! The simulator, from its command line and input to a report and an exit status.
 #![tactic(auto)]
 
 mod input;

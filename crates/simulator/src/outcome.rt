@@ -5,23 +5,23 @@ use check_program::Finding;
 use program_edges::Status;
 use sim_drive::Device;
 
-/// What words and input come to, before anything is written.
+/// The outcome of the command line and its input, before anything is written.
 #[derive(Drop)]
 pub enum Outcome {
     Usage,
     Help,
     Version,
     ReadFault,
-    /// The first broken line, and on it the least broken rule.
+    /// A broken script: the first broken line, and on it the least broken rule.
     BadScript { line: u32, rule: u32 },
     /// A device after `turns` turns.
     Ran { device: Device, turns: u64 },
-    /// What was found in a script and the report after it.
+    /// The finding on a script and the report after it.
     Judged(Finding),
 }
 
 impl Outcome {
-    /// The status, if all that is due is written.
+    /// Returns the exit status of the outcome, if all its text is written.
     pub fn status(&self) -> Status
         ensures { result ≡ status_of self.now }
     {

@@ -45,7 +45,7 @@ fn write_unfinished<K: Sink>(alloc: Global, turns: u64, sink: &mut K) -> Result<
     write_text(text.as_bytes(), sink)
 }
 
-/// Writes the report of a device.
+/// Writes the report of `device`.
 fn write_device<K: Sink>(alloc: Global, device: &Device, sink: &mut K) -> Result<(), WriteFault>
     ensures text { Writes result (K.written sink.old) (K.written sink.new) (report device.now.script device.now.journal) }
     ensures faults { K.faults sink.new ≡ faults_after_writing result (K.faults sink.old) }
@@ -84,7 +84,7 @@ fn write_run<K: Sink>(
     }
 }
 
-/// Writes the text that is due for an outcome.
+/// Writes the text of `outcome` to `sink`.
 pub fn write_outcome<K: Sink>(
     alloc: Global,
     outcome: &Outcome,

@@ -20,7 +20,7 @@ use sim_drive::{Device, drive, turn_limit};
 use std::alloc::Global;
 use ttm_base::NoMemory;
 
-/// Runs a script for the turns that were asked for, or up to its limit.
+/// Runs `script` for `turns` turns, or up to its limit where none are given.
 fn run_script(alloc: Global, turns: Option<u64>, script: Script) -> Result<Outcome, NoMemory>
     requires fits { IsTrue (is_script script) }
     ensures ran { IfOk result (ComesRun script turns) }
@@ -32,7 +32,7 @@ fn run_script(alloc: Global, turns: Option<u64>, script: Script) -> Result<Outco
     Ok(Outcome::Ran { device, turns })
 }
 
-/// Reads a script, and runs it.
+/// Reads a script from `source`, and runs it.
 fn simulate<S: Source>(
     alloc: Global,
     turns: Option<u64>,
@@ -48,7 +48,7 @@ fn simulate<S: Source>(
     }
 }
 
-/// Reads a script and the report after it, and judges it.
+/// Reads a script and the report after it from `source`, and judges the report.
 fn judge<S: Source>(alloc: Global, source: &mut S) -> Result<Outcome, NoMemory>
     ensures comes { IfOk result (ComesChecked (record { before = S.left source.old; after = S.left source.new; faults_before = S.faults source.old; faults_after = S.faults source.new })) }
     ensures faults { OnErr result (S.faults source.new ≡ S.faults source.old) }
@@ -57,7 +57,7 @@ fn judge<S: Source>(alloc: Global, source: &mut S) -> Result<Outcome, NoMemory>
     Ok(Outcome::Judged(finding))
 }
 
-/// What the words and the source come to.
+/// Returns the outcome of what the command line asks, with the bytes of `source`.
 fn outcome_of<S: Source>(alloc: Global, words: &Words, source: &mut S) -> Result<Outcome, NoMemory>
     ensures comes { IfOk result (Comes (form_of words.now) (record { before = S.left source.old; after = S.left source.new; faults_before = S.faults source.old; faults_after = S.faults source.new })) }
     ensures faults { OnErr result (S.faults source.new ≡ S.faults source.old) }
@@ -71,18 +71,18 @@ fn outcome_of<S: Source>(alloc: Global, words: &Words, source: &mut S) -> Result
     }
 }
 
-/// What words and source came to, and how the writing of its text ended.
+/// The outcome of a command line and a source, and how the writing of its text ended.
 #[derive(Drop)]
 pub struct Told {
     pub outcome: Outcome,
     pub written: Result<(), WriteFault>,
 }
 
-/// Finds what the words and the source come to, and then writes the text of it to the sink.
+/// Finds the outcome of the command line and the source, and then writes its text to `sink`.
 ///
 /// # Errors
 ///
-/// Lack of memory for the outcome, be it in the midst of a run; nothing is written.
+/// Lack of memory for the outcome, even in the middle of a run; nothing is written.
 pub fn tell_outcome<S: Source, K: Sink>(
     alloc: Global,
     words: &Words,
@@ -100,8 +100,8 @@ pub fn tell_outcome<S: Source, K: Sink>(
     Ok(Told { outcome, written })
 }
 
-/// Does what the words ask: runs the script that the source gives and writes the report of what it did to the sink, or judges the report that
-/// follows the script and writes the verdict.
+/// Does what the command line asks: runs the script that `source` gives and writes the report of what it did to `sink`, or judges the report that
+/// follows the script and writes the verdict. Returns the exit status.
 pub fn sim_top<S: Source, K: Sink>(
     alloc: Global,
     words: &Words,

@@ -1,4 +1,4 @@
-//! A number for each of many places, with memory for those pieces alone in which one was set.
+//! A table that has a number for each of many places, with memory only for those pieces in which a number was set.
 #![tactic(auto)]
 
 mod piece;

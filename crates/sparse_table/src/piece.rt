@@ -1,14 +1,14 @@
-//! The numbers of neighbouring places.
+//! A piece of the table: the numbers of neighbouring places.
 ghost use Rattle.std.specs.Prelude.{◌≡◌, ℕ, ◌<◌, ◌==◌, [], IfOk, OnOk, OnErr, length, replicate, slice_index, if◌then◌else◌};
 
 use std::alloc::Global;
 use std::marker::Model;
 use ttm_base::NoMemory;
 
-/// Counts the numbers of a piece.
+/// The number of places of a piece.
 pub const PIECE: usize = 1024;
 
-/// Holds no numbers before one is set, and then all `PIECE` of them, of which the others are 0.
+/// The numbers of a piece: none before one is set, and then all `PIECE` of them, of which the others are 0.
 #[derive(Drop)]
 pub struct Piece {
     numbers: Vec<u32>,
@@ -26,7 +26,7 @@ impl Model for Piece {
     ghost invariant = { λ p. IsPiece p.numbers.items };
 }
 
-/// Makes the numbers of a piece, all of them 0.
+/// Returns the numbers of a piece, all of them 0.
 #[cold]
 #[inline(never)]
 fn zeros(alloc: Global) -> Result<Vec<u32>, NoMemory>
@@ -46,7 +46,7 @@ impl Piece {
         }
     }
 
-    /// Gives the number at `at`, which is 0 where none was set.
+    /// Returns the number at `at`, which is 0 where none was set.
     #[inline]
     pub fn get(&self, at: usize) -> u32
         ensures { result ≡ slice_index self.now at }
@@ -54,7 +54,7 @@ impl Piece {
         self.numbers.get(at).copied().unwrap_or(0)
     }
 
-    /// Makes room for all numbers of the piece. After a refusal nothing is changed.
+    /// Makes room for all numbers of the piece. Where memory is refused nothing changes.
     #[inline]
     fn fill(&mut self) -> Result<(), NoMemory>
         ensures size { OnOk result (length self.new ≡ 1024) }
@@ -68,7 +68,7 @@ impl Piece {
         Ok(())
     }
 
-    /// Sets the number at `at`. After a refusal nothing is changed.
+    /// Sets the number at `at`. Where memory is refused nothing changes.
     #[inline]
     pub fn set(&mut self, at: usize, number: u32) -> Result<(), NoMemory>
         requires { at < 1024 }

@@ -5,8 +5,8 @@ use std::alloc::Global;
 use std::marker::Model;
 use ttm_base::NoMemory;
 
-/// Keeps a number for each place, 0 until it is set. Memory is taken for those pieces of 1,024 places alone in which a number was set, and is
-/// kept until the table goes.
+/// A table with a number for each place, which is 0 until it is set. It takes memory only for those pieces of 1,024 places
+/// in which a number was set, and keeps it until the table is dropped.
 pub struct SparseTable {
     pieces: Vec<Piece>,
     len: usize,
@@ -53,7 +53,7 @@ impl SparseTable {
         Ok(SparseTable { pieces, len })
     }
 
-    /// Counts the places.
+    /// Returns the number of places.
     #[inline]
     pub fn len(&self) -> usize
         ensures { result ≡ length self.now }
@@ -61,7 +61,7 @@ impl SparseTable {
         self.len
     }
 
-    /// Gives the number of a place, or 0 where there is no such place.
+    /// Returns the number at place `at`, or 0 where there is no such place.
     #[inline]
     pub fn get(&self, at: usize) -> u32
         ensures { result ≡ slice_index self.now at }
@@ -72,7 +72,8 @@ impl SparseTable {
         self.pieces[at / PIECE].get(at % PIECE)
     }
 
-    /// Sets the number of a place. It takes 4,096 bytes for the first one of a piece. After a refusal nothing is changed.
+    /// Sets the number at place `at`. It takes 4,096 bytes for the first one of a piece. Where memory is refused nothing
+    /// changes.
     #[inline]
     pub fn set(&mut self, at: usize, number: u32) -> Result<(), NoMemory>
         requires { at < length self.old }
@@ -83,7 +84,7 @@ impl SparseTable {
         Ok(())
     }
 
-    /// Replaces the number of a place that has one other than 0. It takes no memory.
+    /// Replaces the number at place `at`, which has one other than 0. It takes no memory.
     #[inline]
     pub fn replace(&mut self, at: usize, number: u32)
         requires { 0 < slice_index self.old at }

@@ -5,21 +5,21 @@ use journal_model::{BufIds, Course, Targets, Victims};
 use std::alloc::Global;
 use ttm_base::{BufId, Mem, Spans};
 
-/// The buffers are one.
+/// Returns whether `a` and `b` are the same buffer.
 pub fn same_buffer(a: BufId, b: BufId) -> bool
     ensures { result ≡ words.same_buffer a b }
 {
     a.0 == b.0
 }
 
-/// The list has the buffer.
+/// Returns whether the buffer `b` is in the list.
 pub fn has_buffer(bs: &[BufId], b: BufId) -> bool
     ensures { result ≡ words.has_buffer bs.now b }
 {
     bs.iter().any(|c| same_buffer(b, *c))
 }
 
-/// The spans that wait for the buffer in a memory type.
+/// Returns the spans that were found for a buffer in the memory type `mem`, if there are any.
 pub fn target_of(mem: Mem, targets: &Targets) -> Option<&Spans>
     ensures { option_copied result ≡ words.target_of mem targets.now }
 {
@@ -30,7 +30,7 @@ pub fn target_of(mem: Mem, targets: &Targets) -> Option<&Spans>
     }
 }
 
-/// A thread that has answered so many commands, at the start of the next.
+/// Returns the state of a thread that has answered `answered` commands, at the start of the next one.
 pub fn new_course(alloc: Global, answered: u32) -> Course
     ensures { result ≡ words.new_course answered }
 {

@@ -6,7 +6,7 @@ use journal_model::{BufIds, Command, Script};
 use std::alloc::Global;
 use ttm_base::{BufId, FlaggedPlace, Mem, NoMemory, Op, Place};
 
-/// The declared pages of a buffer.
+/// Returns the size of a buffer in pages, as it is declared.
 pub fn declared_pages(script: &Script, b: BufId) -> u32
     ensures { result ≡ (words.decl script.now b).pages }
 {
@@ -16,7 +16,7 @@ pub fn declared_pages(script: &Script, b: BufId) -> u32
     }
 }
 
-/// The priority of a buffer, from 0, which is evicted first, to 3.
+/// Returns the priority of a buffer, from 0, which is evicted first, to 3.
 pub fn declared_prio(script: &Script, b: BufId) -> u32
     ensures { result ≡ (words.decl script.now b).prio }
 {
@@ -26,7 +26,7 @@ pub fn declared_prio(script: &Script, b: BufId) -> u32
     }
 }
 
-/// The group in which a buffer is moved in bulk.
+/// Returns the group with which a buffer is moved in bulk, if it has one.
 pub fn declared_group(script: &Script, b: BufId) -> Option<u32>
     ensures { result ≡ (words.decl script.now b).group }
 {
@@ -36,7 +36,7 @@ pub fn declared_group(script: &Script, b: BufId) -> Option<u32>
     }
 }
 
-/// The alignment of a buffer in pages.
+/// Returns the alignment of a buffer in pages.
 pub fn declared_align(script: &Script, b: BufId) -> u32
     ensures { result ≡ (words.decl script.now b).align }
 {
@@ -46,7 +46,7 @@ pub fn declared_align(script: &Script, b: BufId) -> u32
     }
 }
 
-/// The places of a buffer, none of one that isn't declared.
+/// Returns the places of a buffer, or none if it isn't declared.
 pub fn declared_places(script: &Script, b: BufId) -> &[FlaggedPlace]
     ensures { result.now ≡ (words.decl script.now b).placement.list }
 {
@@ -56,7 +56,7 @@ pub fn declared_places(script: &Script, b: BufId) -> &[FlaggedPlace]
     }
 }
 
-/// The commands of a thread. Threads are numbered from 1.
+/// Returns the commands of a thread. Threads are numbered from 1.
 pub fn commands_of(script: &Script, thread: u32) -> &[Command]
     ensures { result.now ≡ words.commands_of script.now thread }
 {
@@ -69,7 +69,7 @@ pub fn commands_of(script: &Script, thread: u32) -> &[Command]
     }
 }
 
-/// The buffers of operations, as they are mentioned.
+/// Returns the buffers of operations in the order of their mentions, each as often as it is mentioned.
 fn mentions(alloc: Global, ops: &[Op]) -> Result<BufIds, NoMemory>
     ensures { IfOk result (λ bs. bs ≡ flat_map words.buffers_of_op ops.now) }
 {
@@ -87,7 +87,7 @@ fn mentions(alloc: Global, ops: &[Op]) -> Result<BufIds, NoMemory>
     Ok(bs)
 }
 
-/// An operation writes a buffer.
+/// Returns whether the operation writes the buffer `b`.
 pub fn writes(b: BufId, op: &Op) -> bool
     ensures { result ≡ words.writes b op.now }
 {
@@ -97,7 +97,7 @@ pub fn writes(b: BufId, op: &Op) -> bool
     }
 }
 
-/// Each buffer once, in order of first mention.
+/// Returns each buffer of a list once, in the order of first mention.
 pub fn first_mentions(alloc: Global, bs: &[BufId]) -> Result<BufIds, NoMemory>
     ensures { IfOk result (λ firsts. firsts ≡ words.first_mentions [] bs.now) }
 {
@@ -110,7 +110,7 @@ pub fn first_mentions(alloc: Global, bs: &[BufId]) -> Result<BufIds, NoMemory>
     Ok(firsts)
 }
 
-/// A list of one buffer.
+/// Returns a list of the buffer `b` alone.
 fn only(alloc: Global, b: BufId) -> Result<BufIds, NoMemory>
     ensures { IfOk result (λ bs. bs ≡ b ∷ []) }
 {
@@ -119,7 +119,7 @@ fn only(alloc: Global, b: BufId) -> Result<BufIds, NoMemory>
     Ok(bs)
 }
 
-/// The buffers that a command names.
+/// Returns the buffers that a command names.
 pub fn named(alloc: Global, command: &Command) -> Result<BufIds, NoMemory>
     ensures { IfOk result (λ bs. bs ≡ words.named command.now) }
 {
@@ -139,7 +139,7 @@ pub fn named(alloc: Global, command: &Command) -> Result<BufIds, NoMemory>
     }
 }
 
-/// All of a memory type, as a place.
+/// Returns the place that is all of a memory type.
 pub fn whole(mem: Mem) -> Place
     ensures { result ≡ words.whole mem }
 {
@@ -152,7 +152,7 @@ pub fn whole(mem: Mem) -> Place
     }
 }
 
-/// A place without a flag.
+/// Returns a place without flags.
 pub fn unflagged(place: Place) -> FlaggedPlace
     ensures { result ≡ words.unflagged place }
 {
@@ -163,7 +163,7 @@ pub fn unflagged(place: Place) -> FlaggedPlace
     }
 }
 
-/// A place that is tried under pressure alone.
+/// Returns a place that is tried under pressure only.
 pub fn as_fallback(place: Place) -> FlaggedPlace
     ensures { result ≡ words.as_fallback place }
 {

@@ -8,7 +8,7 @@ use crate::buffers::same_buffer;
 use journal_model::{Course, Victim, Victims, Why};
 use ttm_base::{BufId, Deny, NoMemory};
 
-/// The buffer is a victim of this thread.
+/// Returns whether the buffer `b` is a victim of this thread.
 pub fn is_caught(course: &Course, b: BufId) -> bool
     ensures { result ≡ searches.is_caught course.now b }
 {
@@ -20,7 +20,7 @@ pub fn is_caught(course: &Course, b: BufId) -> bool
         .any(|c| same_buffer(b, c))
 }
 
-/// Ends the search of a named buffer.
+/// Ends the search for a place for the buffer `b`, which the command names. Where `b` is a victim nothing changes.
 pub fn end_search(course: &mut Course, b: BufId)
     ensures { course.new ≡ search_over b course.old }
 {
@@ -30,7 +30,7 @@ pub fn end_search(course: &mut Course, b: BufId)
     }
 }
 
-/// A victim whose search has failed, if it is this buffer.
+/// Returns the victim, with its search failed by `deny` if it is the buffer `b`.
 fn failed(victim: Victim, b: BufId, deny: Deny) -> Victim
     ensures { result ≡ failed_if deny b victim }
 {
@@ -44,7 +44,7 @@ fn failed(victim: Victim, b: BufId, deny: Deny) -> Victim
     }
 }
 
-/// Sets the failure of a victim's search.
+/// Marks the search for the victim `b` as failed by `deny`.
 fn fail_victim(caught: &mut Victims, b: BufId, deny: Deny)
     ensures { caught.new ≡ map (failed_if deny b) caught.old }
 {
@@ -53,7 +53,7 @@ fn fail_victim(caught: &mut Victims, b: BufId, deny: Deny)
     }
 }
 
-/// Sets the failure of the search of a buffer: of a victim its own, else the command's.
+/// Marks the search for the buffer `b` as failed by `deny`: that of the victim if `b` is one, else that of the command.
 pub fn fail_search(course: &mut Course, b: BufId, deny: Deny)
     ensures { course.new ≡ with_fail b deny course.old }
 {
@@ -64,7 +64,7 @@ pub fn fail_search(course: &mut Course, b: BufId, deny: Deny)
     }
 }
 
-/// Takes a buffer out of the victims.
+/// Removes the buffer `b` from the victims.
 fn remove_victim(caught: &mut Victims, b: BufId)
     ensures { caught.new ≡ filter (λ v. not (state.same_buffer b v.b)) caught.old }
 {
@@ -78,14 +78,15 @@ fn remove_victim(caught: &mut Victims, b: BufId)
     }
 }
 
-/// Takes a buffer out of the victims of a thread.
+/// Removes the buffer `b` from the victims of a thread.
 pub fn forget_victim(course: &mut Course, b: BufId)
     ensures { course.new ≡ no_longer_caught b course.old }
 {
     remove_victim(&mut course.caught, b);
 }
 
-/// The first victim of a search in VRAM or TT turns the search to its forced places.
+/// Returns whether the next victim turns the search to its forced places, those that are tried under pressure: the first
+/// victim of a search in VRAM or TT does.
 fn turns_to_forced(why: Why, caught: &Victims) -> bool
     ensures { result ≡ forces why caught.now }
 {
@@ -95,7 +96,7 @@ fn turns_to_forced(why: Why, caught: &Victims) -> bool
     }
 }
 
-/// Adds a victim.
+/// Adds the buffer `b` to the victims. Where memory is refused nothing changes.
 pub fn add_victim(course: &mut Course, b: BufId, why: Why) -> Result<(), NoMemory>
     ensures ok { OnOk result (course.new ≡ with_victim b why course.old) }
     ensures err { OnErr result (course.new ≡ course.old) }
@@ -106,7 +107,7 @@ pub fn add_victim(course: &mut Course, b: BufId, why: Why) -> Result<(), NoMemor
     Ok(())
 }
 
-/// Skips a victim: the command catches it no more.
+/// Skips the victim `b`, so that the command doesn't catch it again. Where memory is refused nothing changes.
 pub fn skip_victim(course: &mut Course, b: BufId) -> Result<(), NoMemory>
     ensures ok { OnOk result (course.new ≡ with_skip b (no_longer_caught b course.old)) }
     ensures err { OnErr result (course.new ≡ course.old) }
@@ -116,7 +117,7 @@ pub fn skip_victim(course: &mut Course, b: BufId) -> Result<(), NoMemory>
     Ok(())
 }
 
-/// One more forced place is dry; after the last one the search has failed.
+/// Counts one more forced place as dry. After the last one the search has failed.
 pub fn go_dry(course: &mut Course, k: u32, places: usize)
     requires { k + 1 < 2 ^ 32 }
     ensures { course.new ≡ gone_dry k places course.old }

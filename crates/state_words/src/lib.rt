@@ -1,5 +1,6 @@
-//! What a script says of buffers, commands and places, and what a thread's course becomes, as code: the words that the plain rules and the
-//! rooms have in common. Each function is named after its definition and gives what the definition says.
+//! What a script says of buffers, commands and places, and how the state of a thread changes, as code: the functions that
+//! the plain rules and the rooms have in common. Each function is named after its definition and returns what the definition
+//! says.
 #![tactic(auto)]
 
 mod buffers;

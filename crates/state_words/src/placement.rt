@@ -6,7 +6,7 @@ use journal_model::Script;
 use place_list::rules_places::reach;
 use ttm_base::{Mem, Place, Span};
 
-/// How many pages a memory type has.
+/// Returns the size of a memory type in pages.
 pub fn size_of(script: &Script, mem: Mem) -> u32
     ensures { result ≡ holds.size_of script.now mem }
 {
@@ -17,7 +17,7 @@ pub fn size_of(script: &Script, mem: Mem) -> u32
     }
 }
 
-/// The pages that a place reaches.
+/// Returns the span of pages that a place reaches.
 pub fn reach_of(script: &Script, place: Place) -> Span
     ensures { result ≡ choices.reach_of script.now place }
 {

@@ -3,7 +3,7 @@ ghost use Rattle.journal_model.specs.rules.Places as words;
 
 use ttm_base::{Loc, Mem, PagePlace, Span};
 
-/// The page of the spans at a position, if they have so many.
+/// Returns the page of the spans at position `i`, or None where they have no more than `i` pages.
 pub fn page_at(spans: &[Span], i: u32) -> Option<u32>
     ensures { result ≡ slice_get (words.pages_of spans.now) i }
 {
@@ -18,14 +18,14 @@ pub fn page_at(spans: &[Span], i: u32) -> Option<u32>
     None
 }
 
-/// The page of the spans at a position, 0 where they don't have so many.
+/// Returns the page of the spans at position `i`, or 0 where they have no more than `i` pages.
 pub fn page_of_spans(spans: &[Span], i: u32) -> u32
     ensures { result ≡ words.page_of_spans spans.now i }
 {
     page_at(spans, i).unwrap_or(0)
 }
 
-/// The frame, if it is one.
+/// Returns the frame where a page is, or None where it is elsewhere.
 pub fn frame_of(loc: Loc) -> Option<u32>
     ensures { result ≡ words.frame_of loc }
 {
@@ -35,14 +35,14 @@ pub fn frame_of(loc: Loc) -> Option<u32>
     }
 }
 
-/// It is a frame.
+/// Returns whether the page is in a frame.
 pub fn is_frame(loc: Loc) -> bool
     ensures { result ≡ words.is_frame loc }
 {
     frame_of(loc).is_some()
 }
 
-/// The slot, if it is one.
+/// Returns the swap slot where a page is, or None where it is elsewhere.
 pub fn slot_of(loc: Loc) -> Option<u32>
     ensures { result ≡ words.slot_of loc }
 {
@@ -52,7 +52,7 @@ pub fn slot_of(loc: Loc) -> Option<u32>
     }
 }
 
-/// How packets name a page of spans.
+/// Returns the name that packets use for the page at position `i` of spans.
 pub fn name_in_spans(mem: Mem, spans: &[Span], i: u32) -> PagePlace
     ensures { result ≡ words.name_in_spans mem spans.now i }
 {

@@ -26,12 +26,12 @@ use Rattle.journal_model.specs.rules.Waits.{waited_for, jobs_before_write}
 
 -- ---- a page goes to a slot
 
--- the victim, where it was caught for swap
+-- the victim `b`, where it was caught for swap
 abbrev pub if_for_swap : BufId → Option Why → Option BufId
 if_for_swap b (Some why.Swap) = Some b
 if_for_swap b _ = None
 
--- the buffer of a swapout
+-- the buffer of the command, if it is a swapout
 abbrev pub if_swapout : Option Command → Option BufId
 if_swapout (Some (command.SwapOut b)) = Some b
 if_swapout _ = None
@@ -42,11 +42,11 @@ swapped_at cmd c (task.Empty b) = if_for_swap b (why_caught c b)
 swapped_at cmd c task.Act = if_swapout cmd
 swapped_at cmd c _ = None
 
--- the same of a thread
+-- the buffer of the thread whose frames go to slots
 abbrev pub swapped : Script → State → ℕ → Option BufId
 swapped script s thread = swapped_at (command_at_work script s thread) (course s thread) (task_of script s thread)
 
--- one of its pages can go: it has a frame, and a slot is free
+-- a page of the buffer can go to a slot: the buffer has a frame, and a slot is free
 abbrev pub can_swap : Script → State → Option BufId → Bool
 can_swap script s None = false
 can_swap script s (Some b) = has_frame (buffer s b) && is_some (free_slot script s.core)
@@ -55,13 +55,13 @@ can_swap script s (Some b) = has_frame (buffer s b) && is_some (free_slot script
 abbrev pub swap_out_due : Script → State → ℕ → Bool
 swap_out_due script s thread = can_swap script s (swapped script s thread)
 
--- the job of the buffer that isn't done yet
+-- the job of the swapped buffer that isn't done yet
 abbrev pub job_before_swap : Script → State → ℕ → Option JobId
 job_before_swap script s thread = option_and_then (λ b. waited_for s.core (jobs_before_write (buffer s b))) (swapped script s thread)
 
 -- ---- frames are given back
 
--- a buffer that gives back stands in VRAM and has a frame
+-- a buffer that gives back what its search took stands in VRAM and has a frame
 abbrev pub gives_frames : State → Task → Bool
 gives_frames s (task.GiveBack b) = same_mem (buffer s b).mem Vram && has_frame (buffer s b)
 gives_frames s _ = false

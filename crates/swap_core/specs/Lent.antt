@@ -8,12 +8,12 @@ use Rattle.journal_model.specs.rules.State.{buffer, reservation, new_buffer}
 use Rattle.room_representation.specs.room_steps.Lent.{as_buffer}
 use Rattle.room_representation.specs.Bos.{unfenced}
 
--- it stands and is held as in the state
+-- the buffer stands and is held as in the state
 pub record IsAsIn (s : State) (b : BufId) (bo : Bo) : Type 0 where
   pub stands : as_buffer bo ≡ unfenced (buffer s b)
   pub held : reservation_of bo ≡ reservation s b
 
--- none is lent where the state has no such buffer
+-- the buffer that is lent is as in the state; none is lent where the state has no such buffer
 abbrev pub IsLent : State → BufId → Option Bo → Type 0
 IsLent s b (Some bo) = IsAsIn s b bo
 IsLent s b None = unfenced (buffer s b) ≡ new_buffer 0

@@ -12,7 +12,7 @@ use bo_table::Bo;
 use room_state::room_turns::Rooms;
 use ttm_base::{BufId, Mem};
 
-/// A buffer, if it is live.
+/// Returns buffer `b`, or None where it isn't live.
 pub(crate) fn live(rooms: &Rooms, b: BufId) -> Option<&Bo>
     ensures { IsLent (state_behind rooms.now) b (option_copied result) }
 {
@@ -24,14 +24,14 @@ pub(crate) fn live(rooms: &Rooms, b: BufId) -> Option<&Bo>
     if bo.alive { Some(bo) } else { None }
 }
 
-/// A buffer is neither pinned nor reserved.
+/// Returns whether the buffer `bo` is neither pinned nor reserved.
 fn is_loose(bo: &Bo) -> bool
     ensures { result ≡ words.is_loose (reservation_of bo.now) }
 {
     bo.pins == 0 && bo.resv.holder().is_none()
 }
 
-/// A buffer has a frame.
+/// Returns whether buffer `b` has a frame.
 pub(crate) fn has_frame(rooms: &Rooms, b: BufId) -> bool
     ensures { result ≡ words.has_frame (buffer (state_behind rooms.now) b) }
 {
@@ -41,7 +41,7 @@ pub(crate) fn has_frame(rooms: &Rooms, b: BufId) -> bool
     }
 }
 
-/// A buffer stands in VRAM and has a frame.
+/// Returns whether buffer `b` stands in VRAM and has a frame.
 pub(crate) fn has_frame_in_vram(rooms: &Rooms, b: BufId) -> bool
     ensures { result ≡ (same_mem (buffer (state_behind rooms.now) b).mem Vram && words.has_frame (buffer (state_behind rooms.now) b)) }
 {
@@ -51,7 +51,7 @@ pub(crate) fn has_frame_in_vram(rooms: &Rooms, b: BufId) -> bool
     }
 }
 
-/// A buffer may give its frames to swap.
+/// Returns whether buffer `b` may give its frames to swap: it is neither pinned nor reserved, and has a frame.
 fn is_swappable(rooms: &Rooms, b: BufId) -> bool
     ensures { result ≡ (words.is_loose (reservation (state_behind rooms.now) b) && words.has_frame (buffer (state_behind rooms.now) b)) }
 {
@@ -61,7 +61,7 @@ fn is_swappable(rooms: &Rooms, b: BufId) -> bool
     }
 }
 
-/// The first buffer of a walk that may give its frames to swap.
+/// Returns the first buffer of `walk` that may give its frames to swap.
 fn first_swappable(rooms: &Rooms, walk: Walk) -> Option<BufId>
     ensures { result ≡ find (λ b. words.is_loose (reservation (state_behind rooms.now) b) && words.has_frame (buffer (state_behind rooms.now) b)) walk.entry }
 {
@@ -73,7 +73,7 @@ fn first_swappable(rooms: &Rooms, walk: Walk) -> Option<BufId>
     None
 }
 
-/// The first buffer that may give its frames to swap: in SYSTEM by priority, then in TT (ttm_device_swapout).
+/// Returns the first buffer that may give its frames to swap: in SYSTEM by priority, then in TT (ttm_device_swapout).
 pub(crate) fn swap_victim(rooms: &Rooms) -> Option<BufId>
     ensures { result ≡ words.swap_victim (state_behind rooms.now) }
 {

@@ -18,7 +18,7 @@ use room_representation::Ghost;
 use room_state::room_turns::{Rooms, Step, turn};
 use ttm_base::{Actor, BufId, Loc, Need, NoMemory};
 
-/// Where a page stands.
+/// Returns where page `page` stands.
 fn loc_at(places: &[Loc], page: u32) -> Loc
     ensures { result ≡ unwrap_or (slice_get places.now page) place.Zero }
 {
@@ -28,7 +28,7 @@ fn loc_at(places: &[Loc], page: u32) -> Loc
     }
 }
 
-/// A fresh page, or one that comes back from swap.
+/// Returns the entry that gives page `page` the frame `frame`: as a fresh page, or as one that comes back from swap.
 fn filled_by(b: BufId, page: u32, frame: u32, loc: Loc) -> Kind
     ensures { result ≡ words.filled_by b page frame loc }
 {
@@ -43,7 +43,7 @@ fn filled_by(b: BufId, page: u32, frame: u32, loc: Loc) -> Kind
     }
 }
 
-/// A buffer's next page without a frame gets one. In constant time.
+/// Returns the entry that gives the next page of buffer `b` without a frame the frame `frame`. Takes constant time.
 fn filled_with(rooms: &Rooms, b: BufId, frame: u32) -> Kind
     ensures { result ≡ words.filled_by b (words.page_to_fill (buffer (state_behind rooms.now) b)) frame (loc_of (buffer (state_behind rooms.now) b) (words.page_to_fill (buffer (state_behind rooms.now) b))) }
 {
@@ -56,7 +56,7 @@ fn filled_with(rooms: &Rooms, b: BufId, frame: u32) -> Kind
     }
 }
 
-/// The number of the first of these ghosts that holds a frame.
+/// Returns the number of the first of `ghosts` that holds a frame, or None where none does.
 fn first_with_frame(ghosts: &[Ghost]) -> Option<u64>
     ensures { result ≡ option_map (λ g. g.num) (find (λ g. nat_lt 0 (length g.frames)) ghosts.now) }
 {
@@ -66,7 +66,7 @@ fn first_with_frame(ghosts: &[Ghost]) -> Option<u64>
     }
 }
 
-/// A ghost will give a frame, or none is available.
+/// Returns what is next where no victim is left: to wait for a ghost that will give a frame, or the entry that no pages are available.
 fn next_without_victim(rooms: &Rooms, b: BufId) -> Result<Kind, Need>
     ensures { result ≡ words.step_without_victim (state_behind rooms.now) b }
 {
@@ -76,7 +76,7 @@ fn next_without_victim(rooms: &Rooms, b: BufId) -> Result<Kind, Need>
     }
 }
 
-/// A victim for swap, where a slot is free.
+/// Returns what is next where no frame is free: to catch a victim for swap, if a slot is free and there is a victim, else what is next without one.
 fn next_without_frame(rooms: &Rooms, b: BufId) -> Result<Kind, Need>
     ensures { result ≡ words.step_without_frame rooms.now.script (state_behind rooms.now) b }
 {
@@ -92,7 +92,7 @@ fn next_without_frame(rooms: &Rooms, b: BufId) -> Result<Kind, Need>
     }
 }
 
-/// The next page with the lowest free frame; without one, a victim for swap.
+/// Returns what is next for filling buffer `b`: its next page with the lowest free frame; without one, a victim for swap.
 fn next_of_fill(rooms: &Rooms, b: BufId) -> Result<Kind, Need>
     ensures { result ≡ words.step_of_fill rooms.now.script (state_behind rooms.now) b }
 {
@@ -102,7 +102,7 @@ fn next_of_fill(rooms: &Rooms, b: BufId) -> Result<Kind, Need>
     }
 }
 
-/// The buffer that the thread fills, in the stage Fill: its next page gets the lowest free frame, with zeros or with the bytes of its slot
+/// Fills the buffer that `thread` fills, in the stage Fill: its next page gets the lowest free frame, with zeros or with the bytes of its slot
 /// (ttm_tt_populate, ttm_tt_swapin). Where no frame is free a buffer is caught for swap, and where none can be the fill fails.
 ///
 /// # Errors

@@ -10,7 +10,8 @@ use journal_model::{Kind, Task};
 use room_state::room_turns::{Rooms, Step, make};
 use ttm_base::{Actor, NoMemory};
 
-/// A thread's Depopulate is due: a buffer that gives back what its search took stands in VRAM and has a frame. Takes time as `Rooms::task` does.
+/// Returns whether a Depopulate of `thread` is due: a buffer that gives back what its search took stands in VRAM and has a frame. Takes time as
+/// `Rooms::task` does.
 pub fn is_depopulate_due(rooms: &Rooms, thread: u32) -> bool
     ensures { result ≡ depopulate_due rooms.now.script (state_behind rooms.now) thread }
 {
@@ -20,7 +21,7 @@ pub fn is_depopulate_due(rooms: &Rooms, thread: u32) -> bool
     }
 }
 
-/// A buffer in VRAM whose move failed gives its frames back, once its Depopulate is due (ttm_tt_unpopulate).
+/// Gives back the frames of a buffer in VRAM whose move failed, once its Depopulate is due (ttm_tt_unpopulate).
 ///
 /// # Errors
 ///

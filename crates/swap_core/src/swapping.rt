@@ -17,7 +17,7 @@ use room_state::room_turns::{Rooms, Step, turn};
 use state_words::same_buffer;
 use ttm_base::{Actor, BufId, Need, NoMemory, Usage};
 
-/// The first page of a buffer with a frame, or page 0. In constant time.
+/// Returns the first page of buffer `b` with a frame, or page 0. Takes constant time.
 fn first_frame_page(rooms: &Rooms, b: BufId) -> u32
     ensures { result ≡ words.first_frame_page (buffer (state_behind rooms.now) b) }
 {
@@ -27,7 +27,7 @@ fn first_frame_page(rooms: &Rooms, b: BufId) -> u32
     }
 }
 
-/// A buffer's next page goes to a free slot, once its jobs are done.
+/// Returns the entry by which the next page of buffer `b` goes to the free slot `slot`, or the job to wait for first.
 fn next_of_swap(rooms: &Rooms, b: BufId, slot: u32) -> Result<Kind, Need>
     requires { b.0 < length rooms.now.script.buffers }
     ensures { result ≡ words.once_idle (state_behind rooms.now).core b (kind.SwapOut b (words.first_frame_page (buffer (state_behind rooms.now) b)) slot) }
@@ -42,14 +42,14 @@ fn next_of_swap(rooms: &Rooms, b: BufId, slot: u32) -> Result<Kind, Need>
     }
 }
 
-/// The victim of this buffer, if it is caught.
+/// Returns the victim of `caught` that is buffer `b`, if it is caught.
 fn victim_of(caught: &[Victim], b: BufId) -> Option<Victim>
     ensures { result ≡ find (λ v. states.same_buffer b v.b) caught.now }
 {
     caught.iter().copied().find(|v| same_buffer(b, v.b))
 }
 
-/// A victim, where it was caught for swap.
+/// Returns buffer `b` where it was caught for swap.
 fn if_for_swap(course: &Course, b: BufId) -> Option<BufId>
     ensures { result ≡ due.if_for_swap b (words.why_caught course.now b) }
 {
@@ -59,7 +59,7 @@ fn if_for_swap(course: &Course, b: BufId) -> Option<BufId>
     }
 }
 
-/// The buffer whose frames go to slots.
+/// Returns the buffer whose frames go to slots, or None where `thread` has none.
 fn swapped_buffer(rooms: &Rooms, thread: u32) -> Option<BufId>
     ensures { result ≡ swapped rooms.now.script (state_behind rooms.now) thread }
 {
@@ -73,8 +73,8 @@ fn swapped_buffer(rooms: &Rooms, thread: u32) -> Option<BufId>
     }
 }
 
-/// A thread's SwapOut is due: a victim that was caught for swap, or the buffer of a swapout that is at work, has a frame, and a slot is free. It
-/// is due whether the buffer is idle or not. Takes time as `Rooms::task` does.
+/// Returns whether a SwapOut of `thread` is due: a victim that was caught for swap, or the buffer of a swapout that is at work, has a frame, and a
+/// slot is free. It is due whether the buffer is idle or not. Takes time as `Rooms::task` does.
 pub fn is_swap_out_due(rooms: &Rooms, thread: u32) -> bool
     ensures { result ≡ swap_out_due rooms.now.script (state_behind rooms.now) thread }
 {
@@ -84,8 +84,8 @@ pub fn is_swap_out_due(rooms: &Rooms, thread: u32) -> bool
     }
 }
 
-/// The first page with a frame of a victim that was caught for swap, or of the buffer of a swapout, goes to the lowest free slot, once the
-/// thread's SwapOut is due (ttm_tt_swapout).
+/// Moves the first page with a frame of a victim that was caught for swap, or of the buffer of a swapout, to the lowest free slot, once the SwapOut
+/// of `thread` is due (ttm_tt_swapout).
 ///
 /// # Errors
 ///

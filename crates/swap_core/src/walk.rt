@@ -35,7 +35,7 @@ impl<'a> Model for Walk<'a> {
 }
 
 impl<'a> Walk<'a> {
-    /// A walk from the buffer that is evicted first.
+    /// Starts a walk at the buffer that is evicted first.
     pub(crate) fn new(lru: &'a Lru, mem: Mem) -> Walk<'a>
         ensures { result ≡ in_order mem lru.now.lists }
     {

@@ -1,5 +1,5 @@
-//! Swap slots: pages in memory that stand for those of a swap device (a ttm_tt that is swapped out to shmem). Only `new` takes
-//! memory.
+//! Swap slots: pages in memory that stand for those of a swap device (a ttm_tt that is swapped out to shmem). Only `new`
+//! takes memory.
 #![tactic(auto)]
 
 ghost use Rattle.std.specs.Prelude.{◌≡◌, ◌*◌, ◌<◌, false, true, not, Some, IfOk, IfSome, IfNone, length, position, replicate, slice_get, slice_set};
@@ -11,13 +11,14 @@ use std::alloc::Global;
 use std::marker::Model;
 use ttm_base::NoMemory;
 
-/// For each slot whether it is held, and the bytes of all slots. A slot keeps its bytes when it is given back.
+/// A store that knows of each slot whether it is held, and has the bytes of all slots. A slot keeps its bytes when it is
+/// given back.
 pub struct SwapStore {
     held: FreeMap,
     bytes: ByteStore,
 }
 
-/// By hand, so that no crate above proves how each part goes.
+/// Names each part, so that no crate above proves how they are dropped.
 impl Drop for SwapStore {
     fn drop(self) {
         let Self { held: _, bytes: _ } = self;
@@ -36,7 +37,7 @@ impl Model for SwapStore {
 }
 
 impl SwapStore {
-    /// So many slots, each of them free, with zeros in it.
+    /// Returns a store of `slots` free slots, whose bytes are zeros.
     pub fn new(alloc: Global, slots: u32) -> Result<SwapStore, NoMemory>
         ensures zeros { IfOk result (λ store. store ≡ record { held = replicate slots false; bytes = filled (PAGE * slots) 0 }) }
         ensures len { IfOk result (λ store. length store.bytes ≡ PAGE * length store.held) }
@@ -46,7 +47,8 @@ impl SwapStore {
         Ok(SwapStore { held, bytes })
     }
 
-    /// Puts a page of bytes into the lowest free slot, which is then held.
+    /// Copies the bytes of a page into the lowest free slot, which is then held, and returns the slot. None means that no
+    /// slot is free, and changes nothing.
     pub fn put(&mut self, page: &[u8]) -> Option<u32>
         requires { length page.now ≡ PAGE }
         ensures lowest { result ≡ position not self.old.held }
@@ -60,7 +62,7 @@ impl SwapStore {
         Some(slot)
     }
 
-    /// Takes a page of bytes out of a slot that is held, and frees the slot.
+    /// Copies the bytes of a held slot to `into`, and frees the slot.
     pub fn take(&mut self, slot: u32, into: &mut [u8])
         requires held { slice_get self.old.held slot ≡ Some true }
         requires page { length into.old ≡ PAGE }
@@ -71,7 +73,7 @@ impl SwapStore {
         self.drop_slot(slot);
     }
 
-    /// Frees a slot that is held, and doesn't read its bytes.
+    /// Frees a held slot without reading its bytes.
     pub fn drop_slot(&mut self, slot: u32)
         requires { slice_get self.old.held slot ≡ Some true }
         ensures { self.new ≡ record { held = slice_set self.old.held slot false; bytes = self.old.bytes } }
@@ -88,7 +90,7 @@ impl SwapStore {
         self.bytes.part(PAGE * slot as u64, PAGE)
     }
 
-    /// The lowest free slot, into which `put` would put a page.
+    /// Returns the lowest free slot, into which `put` would copy a page, or None where no slot is free.
     pub fn first(&self) -> Option<u32>
         ensures { result ≡ position not self.now.held }
     {

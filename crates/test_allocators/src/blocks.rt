@@ -9,13 +9,13 @@ use std::alloc::Global;
 use std::process::Abort;
 use ttm_base::{Span, Spans};
 
-/// The blocks of an answer, none where there are none.
+/// Returns the blocks of an answer, none where there are none.
 fn blocks_of(rt: &impl Abort, answer: Result<(), AllocFault>, blocks: Spans) -> Spans {
     ensure(rt, answer != Err(AllocFault::NoMemory));
     blocks
 }
 
-/// The blocks that a request gets.
+/// Returns the blocks that a request gets.
 fn got(
     rt: &impl Abort,
     alloc: Global,
@@ -29,14 +29,14 @@ fn got(
     blocks_of(rt, answer, out)
 }
 
-/// So many of the free pages are used, too.
+/// Asserts that `pages` more pages are used, and as many fewer free, than `before` tells.
 fn are_used(rt: &impl Abort, manager: &BuddyManager, before: (u32, u32), pages: u32) {
     let free = before.0.saturating_sub(pages);
     let used = before.1.saturating_add(pages);
     are_lengths(rt, manager.lengths(), free, used);
 }
 
-/// The request would get the blocks. Each is held once, and given back.
+/// Asserts that the request would get the blocks. Each is held once, and given back.
 fn choose(
     rt: &impl Abort,
     alloc: Global,
@@ -62,7 +62,7 @@ fn choose(
     drop(blocks);
 }
 
-/// The request gets the blocks, and gives them back.
+/// Asserts that the request gets the blocks, and gives them back.
 fn take(
     rt: &impl Abort,
     alloc: Global,
@@ -83,7 +83,7 @@ fn take(
     drop(blocks);
 }
 
-/// The request would get the blocks that are wanted, and gets them.
+/// Asserts that the request would get the blocks that are wanted, and gets them.
 fn answer(rt: &impl Abort, alloc: Global, manager: &mut BuddyManager, pages: u32, row: &Row) {
     let (flags, range, want) = *row;
     choose(rt, alloc, manager, pages, range, flags, want);
@@ -96,7 +96,7 @@ fn hold_page(rt: &impl Abort, alloc: Global, manager: &mut BuddyManager, page: u
     drop(got(rt, alloc, manager, 1, range, PLAIN));
 }
 
-/// Each request is answered as is wanted.
+/// Asserts that each request is answered as is wanted.
 fn answers(rt: &impl Abort, alloc: Global, table: &Table) {
     let mut manager = BuddyManager::new(alloc, table.size).expect(rt, "a manager");
     for page in table.held {
@@ -119,7 +119,7 @@ fn buddy_manager_answers(rt: HostRuntime) {
     ensure(rt, BuddyManager::new(alloc, 1 << 31).is_err());
 }
 
-/// Twelve free pages, which are a block of 8 and one of 4.
+/// Makes a manager of twelve free pages, which are a block of 8 and one of 4.
 fn twelve_pages(rt: &impl Abort, alloc: Global) -> BuddyManager
     ensures size { result.size ≡ 12 }
     ensures held { result.held ≡ [] }
@@ -127,7 +127,7 @@ fn twelve_pages(rt: &impl Abort, alloc: Global) -> BuddyManager
     BuddyManager::new(alloc, 12).expect(rt, "a manager")
 }
 
-/// A request for pages anywhere gets one block.
+/// Asserts that a request for pages anywhere gets one block.
 fn gets(
     rt: &impl Abort,
     alloc: Global,
@@ -175,14 +175,14 @@ fn buddy_splits_and_merges(rt: HostRuntime) {
     drop(manager);
 }
 
-/// One span.
+/// Returns a list of one span.
 fn named(rt: &impl Abort, alloc: Global, span: Span) -> Spans
     ensures { result ≡ span ∷ [] }
 {
     Spans::from_slice(alloc, &[span]).expect(rt, "a span")
 }
 
-/// The blocks are held, but not twice, and are given back.
+/// Asserts that the blocks are held, but not twice, and gives them back.
 fn gives_back_once(rt: &impl Abort, manager: &mut BuddyManager, spans: &Spans) {
     let mut twice = spans.copy().expect(rt, "spans");
     twice.extend(spans.items()).expect(rt, "spans");
@@ -192,7 +192,7 @@ fn gives_back_once(rt: &impl Abort, manager: &mut BuddyManager, spans: &Spans) {
     manager.release(spans);
 }
 
-/// The blocks beside pages that are named: the lower half of their block, the other root, and the pages on both sides.
+/// Gets the blocks beside pages that are named: the lower half of their block, the other root, and the pages on both sides.
 fn get_beside(rt: &impl Abort, alloc: Global, manager: &mut BuddyManager) {
     gets(rt, alloc, manager, 4, PLAIN, Span { start: 0, end: 4 });
     gets(rt, alloc, manager, 4, PLAIN, LAST_FOUR);

@@ -18,7 +18,7 @@ const HIGH: Span = Span { start: 40, end: 42 };
 /// A request for a number of pages within a first and a last page, and the hole for it.
 type Row = (Mode, u32, u32, u32, Option<Span>);
 
-/// The hole for a request.
+/// Returns the hole for a request.
 fn found(holes: &Holes, row: &Row) -> Option<Span> {
     let (mode, pages, first, last, _want) = *row;
     match mode {
@@ -28,7 +28,7 @@ fn found(holes: &Holes, row: &Row) -> Option<Span> {
     }
 }
 
-/// The hole for a request, by the call that counts steps, in the ledger that `blank` begins.
+/// Returns the hole for a request, by the call that counts steps, in the ledger that `blank` begins.
 fn counted<L: Ledger>(holes: &Holes, row: &Row, blank: Blank) -> Option<Span>
     requires name { blank.name ≡ L.name }
     requires parts { blank.parts ≡ L.parts }
@@ -43,20 +43,20 @@ fn counted<L: Ledger>(holes: &Holes, row: &Row, blank: Blank) -> Option<Span>
     }
 }
 
-/// The hole for the request is the one that is wanted, also by the call that counts steps.
+/// Asserts that the hole for the request is the one that is wanted, also by the call that counts steps.
 fn assert_hole(rt: &impl Abort, holes: &Holes, row: &Row) {
     is_span(rt, found(holes, row), row.4);
     is_span(rt, counted::<Brand>(holes, row, Blank::new(1)), row.4);
 }
 
-/// Each request finds its hole.
+/// Asserts that each request finds its hole.
 fn assert_holes(rt: &impl Abort, holes: &Holes, rows: &[Row]) {
     for row in rows {
         assert_hole(rt, holes, row);
     }
 }
 
-/// Makes no holes, with nodes for a number of them.
+/// Makes a list without holes, with `nodes` spare nodes.
 fn no_holes(rt: &impl Abort, alloc: Global, nodes: u32) -> Holes
     ensures holes { result.holes ≡ [] }
     ensures spare { result.spare ≡ max 0 nodes }

@@ -5,13 +5,14 @@ use free_map::FreeMap;
 use page_pool::PagePool;
 use std::process::Abort;
 
-/// So many numbers are free, and this is the lowest of them.
+/// Asserts that `count` numbers are free, and that `lowest` is the lowest of them.
 fn assert_free(rt: &impl Abort, map: &FreeMap, count: u32, lowest: Option<u32>) {
     ensure(rt, map.free() == count);
     ensure(rt, map.first() == lowest);
 }
 
-/// The number is the lowest free one, and is taken. Then the stated number is free, and this is the lowest of them.
+/// Takes a number. Asserts that it is `number`, the lowest free one, that `count` numbers are then free, and that `lowest` is the lowest of
+/// them.
 fn takes(rt: &impl Abort, map: &mut FreeMap, number: u32, count: u32, lowest: Option<u32>)
     ensures { map.new ≡ slice_set map.old number true }
 {
@@ -35,13 +36,14 @@ fn lowest_free_of_three(rt: HostRuntime) {
     drop(map);
 }
 
-/// So many frames are free, and this is the lowest of them.
+/// Asserts that `count` frames are free, and that `lowest` is the lowest of them.
 fn assert_free_frames(rt: &impl Abort, pool: &PagePool, count: u32, lowest: Option<u32>) {
     ensure(rt, pool.free() == count);
     ensure(rt, pool.first() == lowest);
 }
 
-/// The frame is the lowest free one, and is taken. Then the stated number is free, and this is the lowest of them.
+/// Takes a frame. Asserts that it is `frame`, the lowest free one, that `count` frames are then free, and that `lowest` is the lowest of
+/// them.
 fn takes_frame(rt: &impl Abort, pool: &mut PagePool, frame: u32, count: u32, lowest: Option<u32>)
     ensures { pool.new ≡ slice_set pool.old frame true }
 {

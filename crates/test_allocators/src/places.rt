@@ -16,7 +16,7 @@ const WHOLE: Place = Place {
     contig: false,
 };
 
-/// A place's first and last page, how many pages there are, and which of them it reaches.
+/// A place's first and last page, the number of pages, and which of them it reaches.
 type Reach = (u32, u32, u32, (u32, u32));
 
 const REACHES: &[Reach] = &[
@@ -27,7 +27,7 @@ const REACHES: &[Reach] = &[
     (9, 0, 8, (8, 8)),
 ];
 
-/// The place reaches the pages.
+/// Asserts that the place reaches the pages.
 fn reaches(rt: &impl Abort, row: &Reach) {
     let (first, last, size, reached) = *row;
     let place = Place {
@@ -45,7 +45,7 @@ fn reach_of_a_place(rt: HostRuntime) {
     }
 }
 
-/// Two spans with a gap between them.
+/// Returns two spans with a gap between them.
 fn two_spans(rt: &impl Abort, alloc: Global) -> Spans {
     let spans = [Span { start: 2, end: 4 }, Span { start: 6, end: 7 }];
     Spans::from_slice(alloc, &spans).expect(rt, "spans")
@@ -69,7 +69,7 @@ fn spans_in_a_reach(rt: HostRuntime) {
     drop(spans);
 }
 
-/// Where a resource of two spans stands, a place, and whether it fits.
+/// The memory type in which a resource of two spans stands, a place, and whether it fits.
 const FITS: &[(Mem, Place, bool)] = &[
     (Mem::Vram, WHOLE, true),
     (Mem::Tt, WHOLE, false),
@@ -101,7 +101,7 @@ const FITS: &[(Mem, Place, bool)] = &[
     ),
 ];
 
-/// A list of places.
+/// Makes a placement of a list of places.
 fn placement(rt: &impl Abort, alloc: Global, places: &[FlaggedPlace]) -> Placement
     ensures { result.list ≡ places.now }
 {
@@ -109,7 +109,7 @@ fn placement(rt: &impl Abort, alloc: Global, places: &[FlaggedPlace]) -> Placeme
     Placement { list }
 }
 
-/// A resource of the spans fits the place, or doesn't.
+/// Asserts that a resource of the spans fits the place, or doesn't.
 fn assert_fit(rt: &impl Abort, alloc: Global, spans: &Spans, row: &(Mem, Place, bool)) {
     let unflagged = FlaggedPlace {
         place: row.1,
@@ -155,7 +155,7 @@ const FLAGGED: [FlaggedPlace; 3] = [
     },
 ];
 
-/// The place is one of this memory type.
+/// Asserts that the place is one of this memory type.
 fn is_in(rt: &impl Abort, place: &Place, mem: Mem) {
     ensure(rt, place.mem == mem);
 }
@@ -180,10 +180,10 @@ const SPANS: [Span; 3] = [
     Span { start: 0, end: 3 },
 ];
 
-/// Their pages, in order.
+/// The pages of `SPANS`, in order.
 const PAGES: &[u32] = &[7, 8, 0, 1, 2];
 
-/// The cursor gives the pages, and then none.
+/// Asserts that the cursor gives the pages, and then none.
 fn assert_pages(rt: &impl Abort, cursor: &mut PageCursor, pages: &[u32]) {
     for page in pages {
         ensure(rt, cursor.next() == Some(*page));

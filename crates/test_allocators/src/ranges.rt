@@ -29,7 +29,7 @@ enum Step {
     Refuse(Span),
     /// Lets the span go that is held from this page on.
     LetGo(u32),
-    /// The choice alone, which nobody takes.
+    /// A choice alone, which nobody takes.
     Choose(Request, Option<Span>),
     /// A request, whose answer is also the choice before it.
     Insert(Request, Result<Span, InsertFault>),
@@ -44,18 +44,18 @@ fn hold(rt: &impl Abort, manager: &mut RangeManager, spans: &[Span]) {
     }
 }
 
-/// Lets a span go, which is held.
+/// Lets the span go that is held from page `start` on.
 fn let_go(rt: &impl Abort, manager: &mut RangeManager, start: u32) {
     ensure(rt, manager.held_from(start).is_some());
     manager.remove(start);
 }
 
-/// The span that the request would get.
+/// Returns the span that the request would get.
 fn choice(manager: &RangeManager, it: &Request) -> Option<Span> {
     manager.choice(it.pages, it.align.max(1), it.first, it.last, it.mode)
 }
 
-/// The answer to the request is the one that is wanted, and the choice before it.
+/// Asserts that the answer to the request is the one that is wanted, and the choice before it.
 fn insert(
     rt: &impl Abort,
     manager: &mut RangeManager,
@@ -67,7 +67,7 @@ fn insert(
     ensure(rt, got == *want);
 }
 
-/// The step is answered as is wanted.
+/// Asserts that the step is answered as is wanted.
 fn run(rt: &impl Abort, manager: &mut RangeManager, step: &Step) {
     match step {
         Step::Hold(spans) => hold(rt, manager, spans),
@@ -81,7 +81,7 @@ fn run(rt: &impl Abort, manager: &mut RangeManager, step: &Step) {
     }
 }
 
-/// A manager of 16 pages answers each step as is wanted.
+/// Asserts that a manager of 16 pages answers each step as is wanted.
 fn answers(rt: &impl Abort, alloc: Global, steps: &[Step]) {
     let mut manager = RangeManager::new(alloc, 16).expect(rt, "a manager");
     for step in steps {
@@ -90,7 +90,7 @@ fn answers(rt: &impl Abort, alloc: Global, steps: &[Step]) {
     drop(manager);
 }
 
-/// No pages in any place, by the best fit.
+/// A request for no pages in any place, by the best fit.
 const ANYWHERE: Request = Request {
     pages: 0,
     align: 1,
@@ -99,7 +99,7 @@ const ANYWHERE: Request = Request {
     mode: Mode::Best,
 };
 
-/// Steps of a manager each.
+/// The steps of one manager each.
 const CASES: &[&[Step]] = &[
     // in each mode
     &[

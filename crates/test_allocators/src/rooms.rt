@@ -47,7 +47,7 @@ enum Step {
     Give(Owner),
 }
 
-/// What a request gets: no spans where there is no room.
+/// Returns what a request gets: no spans where there is no room.
 fn answered(rt: &impl Abort, alloc: Global, answer: Result<Spans, TakeFault>) -> Spans {
     match answer {
         Ok(spans) => spans,
@@ -58,7 +58,7 @@ fn answered(rt: &impl Abort, alloc: Global, answer: Result<Spans, TakeFault>) ->
     }
 }
 
-/// The owner keeps these spans: none where it holds nothing.
+/// Asserts that the owner keeps these spans: none where it holds nothing.
 fn keeps<M: Manager>(rt: &impl Abort, room: &M, owner: Owner, want: &[Span]) {
     match room.spans_of(owner) {
         Some(spans) => are_spans(rt, spans.items(), want),
@@ -66,7 +66,7 @@ fn keeps<M: Manager>(rt: &impl Abort, room: &M, owner: Owner, want: &[Span]) {
     }
 }
 
-/// The owner gets the spans, and keeps them.
+/// Asserts that the owner gets the spans, and keeps them.
 fn take<M: Manager>(
     rt: &impl Abort,
     alloc: Global,
@@ -84,7 +84,7 @@ fn take<M: Manager>(
     keeps(rt, room, owner, want);
 }
 
-/// The request would get the spans.
+/// Asserts that the request would get the spans.
 fn choose<M: Manager>(
     rt: &impl Abort,
     alloc: Global,
@@ -99,7 +99,7 @@ fn choose<M: Manager>(
     drop(spans);
 }
 
-/// The request would get the spans, which the owner is given to hold, and keeps.
+/// Asserts that the request would get the spans, and gives them to the owner to hold, which keeps them.
 fn hold<M: Manager>(
     rt: &impl Abort,
     alloc: Global,
@@ -118,21 +118,21 @@ fn hold<M: Manager>(
     keeps(rt, room, owner, want);
 }
 
-/// The owner's pages become those of another.
+/// Passes the pages of the owner `from` to the owner `to`.
 fn pass<M: Manager>(rt: &impl Abort, room: &mut M, from: Owner, to: Owner) {
     ensure(rt, room.holds(from));
     ensure(rt, !room.holds(to));
     room.pass(from, to);
 }
 
-/// The owner gives its pages back.
+/// Gives the owner's pages back.
 fn give<M: Manager>(rt: &impl Abort, room: &mut M, owner: Owner) {
     ensure(rt, room.holds(owner));
     room.give(owner);
     ensure(rt, !room.holds(owner));
 }
 
-/// The step gets what it is to get.
+/// Asserts that the step gets what it is to get.
 fn run<M: Manager>(rt: &impl Abort, alloc: Global, room: &mut M, step: &Step) {
     match step {
         Step::Take(owner, pages, place, want) => {
@@ -147,7 +147,7 @@ fn run<M: Manager>(rt: &impl Abort, alloc: Global, room: &mut M, step: &Step) {
     }
 }
 
-/// Each step gets what it is to get, and after the last one these numbers of pages are free or held.
+/// Asserts that each step gets what it is to get, and that after the last one these numbers of pages are free or held.
 fn ends_with<M: Manager + Drop>(
     rt: &impl Abort,
     alloc: Global,
@@ -203,7 +203,7 @@ const BLOCKS: &[Step] = &[
     ),
 ];
 
-/// The pages after them.
+/// The numbers of pages after `BLOCKS`.
 const BLOCKS_HELD: Lengths = Lengths {
     free: 1,
     live: 8,
@@ -270,7 +270,7 @@ const RANGES: &[Step] = &[
     ),
 ];
 
-/// The pages after them.
+/// The numbers of pages after `RANGES`.
 const RANGES_HELD: Lengths = Lengths {
     free: 1,
     live: 15,
@@ -333,7 +333,7 @@ const VRAM_BLOCKS_HELD: Lengths = Lengths {
     ghosts: 0,
 };
 
-/// Twelve pages of VRAM of this kind, whose steps get what they are to get.
+/// Asserts that the steps on twelve pages of VRAM of this kind get what they are to get.
 fn vram_ends_with(rt: &impl Abort, alloc: Global, kind: PagesKind, steps: &[Step], want: Lengths) {
     let room = VramRoom::new(alloc, 12, kind).expect(rt, "a room");
     ensure(rt, room.kind() == kind);

@@ -8,7 +8,7 @@ const SET: &[(usize, u32)] = &[(0, 7), (1023, 8), (1024, 9), (4999, 10)];
 /// Places where none is set, also beyond the table.
 const UNSET: &[(usize, u32)] = &[(1, 0), (1025, 0), (3000, 0), (4998, 0), (5000, 0)];
 
-/// Sets the number, where its place is in the table.
+/// Sets the number at `at`, which is in the table.
 fn set(rt: &impl Abort, table: &mut SparseTable, at: usize, number: u32) {
     ensure(rt, at < table.len());
     table.set(at, number).expect(rt, "a piece");
@@ -21,7 +21,7 @@ fn set_all(rt: &impl Abort, table: &mut SparseTable, numbers: &[(usize, u32)]) {
     }
 }
 
-/// The table has the numbers.
+/// Asserts that the table has the numbers.
 fn assert_numbers(rt: &impl Abort, table: &SparseTable, numbers: &[(usize, u32)]) {
     for (at, number) in numbers {
         ensure(rt, table.get(*at) == *number);

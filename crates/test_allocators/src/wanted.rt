@@ -4,7 +4,7 @@ ghost use Rattle.std.specs.Prelude.{◌≡◌, true};
 use std::process::Abort;
 use ttm_base::Span;
 
-/// The condition holds.
+/// Asserts that the condition holds.
 pub fn ensure(rt: &impl Abort, holds: bool)
     ensures { holds ≡ true }
 {
@@ -13,12 +13,12 @@ pub fn ensure(rt: &impl Abort, holds: bool)
     }
 }
 
-/// There is this span, or none.
+/// Asserts that there is this span, or none.
 pub fn is_span(rt: &impl Abort, got: Option<Span>, want: Option<Span>) {
     ensure(rt, got == want);
 }
 
-/// The spans are these.
+/// Asserts that the spans are these.
 pub fn are_spans(rt: &impl Abort, got: &[Span], want: &[Span]) {
     ensure(rt, got == want);
 }

@@ -6,7 +6,7 @@ use std::alloc::Global;
 use std::io::{Error, ErrorKind, Result};
 use ttm_base::Actor;
 
-/// When parts that follow a device are compared with it.
+/// The times at which parts that follow a device are compared with it.
 #[derive(Clone, Copy)]
 pub enum When {
     /// At the start, and after each entry.
@@ -15,11 +15,11 @@ pub enum When {
     AtTheEnd,
 }
 
-/// How fast a value counts.
+/// How fast a value counts, by which workers are tested.
 #[derive(Clone, Copy)]
 pub enum Pace {
     Fast,
-    /// A step takes some milliseconds.
+    /// Slowly: a step takes some milliseconds.
     Slow,
 }
 
@@ -55,25 +55,25 @@ pub struct Case {
     pub name: String,
     /// The words after the program's name.
     pub words: Vec<String>,
-    /// How many bytes a read or a write moves at most: one run for each number.
+    /// The numbers of bytes that a read or a write moves at most: one run for each number.
     pub chunks: Vec<u64>,
     /// The reads that fail, counted from 1.
     pub read_fails: Vec<u64>,
     /// The writes that fail, counted from 1.
     pub write_fails: Vec<u64>,
-    /// Whose turns these are.
+    /// The actors whose turns these are, in order.
     pub steps: Vec<Actor>,
-    /// After the steps, turns in the simulator's order until all is over.
+    /// Whether, after the steps, turns in the simulator's order follow until all is over.
     pub to_the_end: bool,
-    /// At the end, which frame each page of TT stands for.
+    /// Whether the frame that each page of TT stands for is printed at the end.
     pub shows_aperture: bool,
-    /// The answer to each turn is told, and at the end the report.
+    /// Whether the answer to each turn is told, and the report at the end.
     pub tells_turns: bool,
-    /// After each answered command, what the first thread's mapping of the first buffer knows.
+    /// Whether, after each answered command, what the first thread's mapping of the first buffer knows is printed.
     pub shows_mapping: bool,
-    /// A gate holds the workers so, and a line tells what it saw.
+    /// How a gate holds the workers, if one does. A line tells what it saw.
     pub watched: Option<Hold>,
-    /// How many turns the gate sees at least.
+    /// The number of turns that the gate sees at least.
     pub least_turns: u64,
     pub form: Form,
     pub text: Vec<u8>,
@@ -101,7 +101,7 @@ impl Drop for Case {
     }
 }
 
-/// The line says nothing of a case, or comes where it may not.
+/// Makes the error of a line that says nothing of a case, or comes where it may not.
 fn broken() -> Error {
     Error::from(ErrorKind::InvalidData)
 }
@@ -126,7 +126,7 @@ fn actors(alloc: Global, words: &str) -> Result<Vec<Actor>> {
 }
 
 impl Case {
-    /// The case that a line begins, with an empty text. It is run with 1 and with 4,096 bytes at a time.
+    /// Begins the case of `line`, with an empty text. It is run with 1 and with 4,096 bytes at a time.
     pub(crate) fn begin(alloc: Global, line: &str) -> Result<Case> {
         let Some(title) = line.strip_prefix("case ") else {
             return Err(broken());
@@ -158,7 +158,7 @@ impl Case {
         })
     }
 
-    /// Takes a line between the first and `text`.
+    /// Takes `line`, which stands between the first and `text`.
     pub(crate) fn set(&mut self, alloc: Global, line: &str) -> Result<()> {
         match line {
             "to the end" => self.to_the_end = true,
@@ -204,7 +204,7 @@ impl Case {
         Ok(())
     }
 
-    /// Puts `count` letters x at the end of the text.
+    /// Adds `count` letters x at the end of the text.
     fn put_letters(&mut self, alloc: Global, count: u32) -> Result<()>
         ensures { OnOk result (self.new.text.items ≡ self.old.text.items ++ replicate count 120) }
     {
@@ -213,7 +213,7 @@ impl Case {
         Ok(())
     }
 
-    /// Puts a line at the end of the text.
+    /// Adds `line` at the end of the text.
     pub(crate) fn put_line(&mut self, line: &str) -> Result<()>
         ensures { OnOk result (self.new.text.items ≡ self.old.text.items ++ line.now ++ 10 ∷ []) }
     {
@@ -222,7 +222,7 @@ impl Case {
         Ok(())
     }
 
-    /// Takes the last byte of the text away.
+    /// Removes the last byte of the text.
     pub(crate) fn cut_last(&mut self)
         ensures { self.new.text.items ≡ take (length self.old.text.items - 1) self.old.text.items }
     {

@@ -2,7 +2,7 @@ use crate::Case;
 use std::alloc::Global;
 use std::io::Result;
 
-/// Reads a table of cases line by line.
+/// A table of cases, which is read line by line.
 #[derive(Drop)]
 pub struct Table {
     alloc: Global,
@@ -11,7 +11,7 @@ pub struct Table {
 }
 
 impl Table {
-    /// A table of which no line was read.
+    /// Makes a table of which no line was read.
     pub fn new(alloc: Global) -> Table {
         Table {
             alloc,
@@ -20,7 +20,7 @@ impl Table {
         }
     }
 
-    /// Takes the next line, and answers the case that it ends, if it ends one.
+    /// Takes the next line, and returns the case that it ends, if it ends one.
     ///
     /// # Errors
     ///
@@ -46,7 +46,7 @@ impl Table {
         Ok(None)
     }
 
-    /// The case that was read.
+    /// Returns the case that was read.
     fn end(&mut self) -> Option<Case> {
         self.in_text = false;
         self.case.take()

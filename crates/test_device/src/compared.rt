@@ -21,10 +21,10 @@ use std::io::{Error, ErrorKind};
 use test_cases::{Case, When, no_memory};
 use told::{print_mapping, print_parts, print_step};
 
-/// How many turns in the simulator's order follow the steps of a case at most.
+/// The number of turns in the simulator's order that follow the steps of a case at most.
 const MOST_TURNS: u32 = 1_000_000;
 
-/// Takes the turns of a case.
+/// Takes the turns that a case lists.
 fn take_steps(rt: &impl Print, pair: &mut Pair, case: &Case) -> Result<(), Stop>
     requires { AreInStep pair.old.replay.plain pair.old.replay.rooms }
     ensures { OnOk result (AreInStep pair.new.replay.plain pair.new.replay.rooms) }
@@ -72,7 +72,7 @@ fn print_difference(rt: &impl Print, turns: u64, found: Difference) -> io::Resul
     }
 }
 
-/// Ends the line, with how many turns wanted memory, if one did.
+/// Ends the line, with the number of turns for which memory was lacking, if there was one.
 fn end_line(rt: &impl Print, refused: u64) -> io::Result<()> {
     if refused == 0 {
         println!(rt; "")

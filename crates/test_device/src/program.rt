@@ -10,10 +10,10 @@ use std::thread::Threads;
 use test_cases::{Case, Hold, no_memory};
 use thread_program::ttm_top;
 
-/// Room for the output of a case, in bytes.
+/// The room for the output of a case, in bytes.
 const ROOM: usize = 1 << 22;
 
-/// What came of a run.
+/// The outcome of a run.
 #[derive(Drop)]
 pub struct Outcome {
     pub status: u8,
@@ -28,7 +28,7 @@ fn words_of(alloc: Global, case: &Case) -> io::Result<Words> {
     Ok(words)
 }
 
-/// Runs a case; a read or a write moves at most `chunk` bytes, and at least one.
+/// Runs a case. A read or a write moves at most `chunk` bytes, and at least one.
 pub fn outcome_of(
     rt: &(impl Threads + Wait + Sync + Print),
     alloc: Global,
@@ -60,7 +60,7 @@ pub fn print_outcome(rt: &impl Print, name: &str, outcome: &Outcome) -> io::Resu
     }
 }
 
-/// Tells whether an outcome is as that of the run before it.
+/// Returns whether an outcome is the same as that of the run before it.
 fn is_known(before: &Option<Outcome>, outcome: &Outcome) -> bool {
     match before {
         Some(before) => {
@@ -70,7 +70,8 @@ fn is_known(before: &Option<Outcome>, outcome: &Outcome) -> bool {
     }
 }
 
-/// Runs a case with each number of bytes a read or a write. Prints the first outcome, and any that isn't as the one before.
+/// Runs a case with each number of bytes that a read or a write moves at most. Prints the first outcome, and any that isn't the same as the
+/// one before.
 pub fn run(
     rt: &(impl Threads + Wait + Sync + Print),
     alloc: Global,

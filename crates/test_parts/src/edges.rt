@@ -8,20 +8,20 @@ use std::process::Abort;
 
 const TEXT: &[u8] = b"ttm 1\nend\n";
 
-/// A source of the text, whose listed reads fail.
+/// Makes a source of the text, whose listed reads fail.
 fn source(rt: &impl Abort, alloc: Global, chunk: usize, fails: &[u64]) -> MemSource {
     let bytes = Vec::from_slice(alloc, TEXT).expect(rt, "bytes");
     let fails = Vec::from_slice(alloc, fails).expect(rt, "numbers");
     MemSource::new(bytes, chunk.max(1), fails)
 }
 
-/// A sink of `room` bytes, whose listed writes fail.
+/// Makes a sink of `room` bytes, whose listed writes fail.
 fn sink(rt: &impl Abort, alloc: Global, room: usize, chunk: usize, fails: &[u64]) -> MemSink {
     let fails = Vec::from_slice(alloc, fails).expect(rt, "numbers");
     MemSink::new(alloc, room, chunk.max(1), fails).expect(rt, "a sink")
 }
 
-/// The source has these bytes left, and no more than the limit.
+/// Asserts that the source has these bytes left, and no more than the limit.
 fn gives<S: Source>(rt: &impl Abort, alloc: Global, source: &mut S, limit: u32, want: &[u8]) {
     match read_all(alloc, source, limit as usize) {
         Ok(bytes) => are_bytes(rt, bytes.as_slice(), want),
@@ -29,7 +29,7 @@ fn gives<S: Source>(rt: &impl Abort, alloc: Global, source: &mut S, limit: u32, 
     }
 }
 
-/// The source can't be read whole.
+/// Asserts that the source can't be read whole, with this fault.
 fn faults<S: Source>(rt: &impl Abort, alloc: Global, source: &mut S, limit: u32, want: ReadFault) {
     match read_all(alloc, source, limit as usize) {
         Ok(_) => ensure(rt, false),
@@ -37,8 +37,8 @@ fn faults<S: Source>(rt: &impl Abort, alloc: Global, source: &mut S, limit: u32,
     }
 }
 
-/// How many bytes a read moves at most, the reads that fail, the limit in bytes, how the reading ends: with the whole text or with a fault; and which
-/// bytes another one then gives, if it is to be tried.
+/// The number of bytes that a read moves at most, the reads that fail, the limit in bytes, how the reading ends: with the whole text or
+/// with a fault; and which bytes another one then gives, if it is to be tried.
 type Reading = (
     usize,
     &'static [u64],
@@ -65,7 +65,7 @@ const READINGS: &[Reading] = &[
     (1, &[], 10, None, Some(b"")),
 ];
 
-/// The reading ends as is wanted.
+/// Asserts that the reading ends as the row tells.
 fn assert_reading(rt: &impl Abort, alloc: Global, row: &Reading) {
     let (chunk, fails, limit, fault, left) = *row;
     let mut source = source(rt, alloc, chunk, fails);
@@ -87,8 +87,8 @@ fn sources_are_read_whole_or_fault(rt: HostRuntime) {
     }
 }
 
-/// The room of a sink in bytes, how many a write moves at most, the writes that fail, how often the text is written whole, and what has gone out once
-/// it is written again: that breaks off at a listed write, or for lack of room.
+/// The room of a sink in bytes, the number of bytes that a write moves at most, the writes that fail, how often the text is written whole,
+/// and what has gone out once it is written again: that breaks off at a listed write, or for lack of room.
 type Writing = (usize, usize, &'static [u64], u32, &'static [u8]);
 
 const TWICE: &[u8] = b"ttm 1\nend\nttm 1\nend\n";
@@ -106,7 +106,7 @@ const WRITINGS: &[Writing] = &[
     (20, 5000, &[], 2, TWICE),
 ];
 
-/// The writing ends as is wanted.
+/// Asserts that the writing ends as the row tells.
 fn assert_writing(rt: &impl Abort, alloc: Global, row: &Writing) {
     let (room, chunk, fails, times, want) = *row;
     let mut sink = sink(rt, alloc, room, chunk, fails);
@@ -180,7 +180,7 @@ fn faults_of_a_reader(rt: HostRuntime) {
     gives(&rt, rt.alloc(), &mut text, 10, TEXT);
 }
 
-/// How many calls go well, whether nothing is taken, and what comes of a write. Each piece is written and flushed: two calls.
+/// The number of calls that go well, whether nothing is taken, and what comes of a write. Each piece is written and flushed: two calls.
 type Written = (u32, bool, Result<usize, Failed>);
 
 const WRITES: &[Written] = &[
@@ -190,7 +190,7 @@ const WRITES: &[Written] = &[
     (2, true, Err(Failed)),
 ];
 
-/// A write of four bytes ends as is wanted.
+/// Asserts that a write of four bytes ends as the row tells.
 fn assert_write(rt: &impl Abort, row: &Written) {
     let (good, full, want) = *row;
     let mut output = StdSink::new(Flaky {

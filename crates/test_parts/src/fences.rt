@@ -4,7 +4,7 @@ use std::alloc::Global;
 use std::process::Abort;
 use ttm_base::{JobId, Usage};
 
-/// The next job of a context.
+/// Emits the next job of the context `ctx`, and returns it.
 pub fn emitted(line: &mut Timeline, ctx: u32) -> Option<JobId> {
     if ctx < line.contexts() && line.next(ctx) < 100 {
         return Some(line.emit(ctx));
@@ -12,7 +12,7 @@ pub fn emitted(line: &mut Timeline, ctx: u32) -> Option<JobId> {
     None
 }
 
-/// Marks a job of a context, if one isn't done.
+/// Marks a job of the context `ctx` as done, if one isn't. Returns whether there was one.
 fn finished(line: &mut Timeline, ctx: u32) -> bool {
     if ctx < line.contexts() {
         let num = line.next(ctx) - 1;
@@ -41,7 +41,7 @@ fn need(set: &FenceSet, usage: Usage, line: &Timeline) -> Option<JobId> {
     None
 }
 
-/// Of each usage the job to wait for.
+/// Asserts for each usage which job is to be waited for.
 fn assert_need(rt: &impl Abort, set: &FenceSet, line: &Timeline, rows: &[(Usage, Option<JobId>)]) {
     for (usage, wanted) in rows {
         is_job(rt, need(set, *usage, line), *wanted);
@@ -55,21 +55,21 @@ const JOBS: &[(JobId, bool)] = &[
     (JobId { ctx: 1, num: 1 }, false),
 ];
 
-/// The jobs are emitted in their order.
+/// Emits the jobs in their order.
 fn emit_all(rt: &impl Abort, line: &mut Timeline) {
     for (job, _done) in JOBS {
         is_job(rt, emitted(line, job.ctx), Some(*job));
     }
 }
 
-/// The jobs are done, or aren't.
+/// Asserts which of the jobs are done.
 fn assert_done(rt: &impl Abort, line: &Timeline) {
     for (job, done) in JOBS {
         ensure(rt, is_done(line, *job) == *done);
     }
 }
 
-/// The jobs 1 and 2 of context 0, of which the first is done, and job 1 of context 1.
+/// Makes a timeline with the jobs 1 and 2 of context 0, of which the first is done, and job 1 of context 1.
 fn two_contexts(rt: &impl Abort, alloc: Global) -> Timeline {
     let mut line = Timeline::new(alloc, 2).expect(rt, "contexts");
     emit_all(rt, &mut line);
@@ -101,7 +101,7 @@ const READ_BEHIND_WRITE: &[(Usage, Option<JobId>)] = &[(Usage::Read, Some(WRITE)
 
 const READ_BEHIND_KERNEL: &[(Usage, Option<JobId>)] = &[(Usage::Read, Some(KERNEL))];
 
-/// A write, and a use by the kernel.
+/// Makes a set of a write, and a use by the kernel.
 fn two_fences(rt: &impl Abort, alloc: Global) -> FenceSet {
     let mut set = FenceSet::new(alloc, 2).expect(rt, "contexts");
     add(&mut set, WRITE, Usage::Write);
@@ -109,7 +109,7 @@ fn two_fences(rt: &impl Abort, alloc: Global) -> FenceSet {
     set
 }
 
-/// The uses of another set, as by the kernel.
+/// Makes a set of the uses of another set, as by the kernel.
 fn copied(rt: &impl Abort, alloc: Global, set: &FenceSet) -> FenceSet {
     let mut other = FenceSet::new(alloc, 2).expect(rt, "contexts");
     if other.contexts() == set.contexts() {

@@ -20,7 +20,7 @@ const CHANGES: &[(Change, &[u8])] = &[
     (Change::Extend(&[6]), &[6]),
 ];
 
-/// The list is changed, and then has these items.
+/// Changes the list, and asserts that it then has these items.
 fn assert_change(rt: &impl Abort, list: &mut ItemList<u8>, change: &Change, want: &[u8]) {
     match change {
         Change::Extend(items) => list.extend(items).expect(rt, "items"),
@@ -39,7 +39,7 @@ fn list_grows_and_is_cut_back(rt: HostRuntime) {
     }
 }
 
-/// What comes, how many of the first leave then, to how many the queue is cut back, and what is left.
+/// The items that come, the number of the first ones that leave then, the length to which the queue is cut back, and what is left.
 type Row = (&'static [u32], u32, usize, &'static [u32]);
 
 const ROWS: &[Row] = &[
@@ -52,7 +52,7 @@ const ROWS: &[Row] = &[
     (&[9, 10], 0, 1, &[9]),
 ];
 
-/// Items come, and the first ones leave.
+/// Adds the items of `come` to the queue, and then drops the first `leave` items.
 fn turn_over(rt: &impl Abort, queue: &mut ItemQueue<u32>, come: &[u32], leave: u32) {
     for item in come {
         queue.push(*item).expect(rt, "an item");
@@ -64,7 +64,7 @@ fn turn_over(rt: &impl Abort, queue: &mut ItemQueue<u32>, come: &[u32], leave: u
     }
 }
 
-/// Items come and leave, the queue is cut back, and has these items left.
+/// Asserts that, once items come and leave and the queue is cut back, it has these items left.
 fn assert_row(rt: &impl Abort, queue: &mut ItemQueue<u32>, row: &Row) {
     let (come, leave, kept, left) = *row;
     turn_over(rt, queue, come, leave);

@@ -7,7 +7,7 @@ use std::process::Abort;
 use std::sync::ledger::{Blank, Ledger};
 use ttm_base::{BufId, Mem};
 
-/// Lists a buffer, which may be listed.
+/// Lists buffer `b`, which may be listed.
 fn list(rt: &impl Abort, lru: &mut Lru, b: u32, prio: u32, group: Option<u32>) {
     ensure(rt, prio < 4);
     ensure(rt, lru.can_add(BufId(b), group));
@@ -22,7 +22,7 @@ fn list_all(rt: &impl Abort, lru: &mut Lru, prio: u32, rows: &[(u32, Option<u32>
     }
 }
 
-/// The first buffer of the lists of VRAM, priority 0 first, taken off its list.
+/// Takes the first buffer off the lists of VRAM, priority 0 first, and returns it.
 fn evict(lru: &mut Lru) -> Option<BufId> {
     for prio in 0..4 {
         if let Some(b) = lru.first(Mem::Vram, prio) {
@@ -35,14 +35,14 @@ fn evict(lru: &mut Lru) -> Option<BufId> {
     None
 }
 
-/// The buffer stands at the place. Gives the one after it in its list, if it is on one.
+/// Asserts that buffer `b` stands at the place. Returns the one after it in its list, if it is on one.
 fn follows(rt: &impl Abort, lru: &Lru, at: Option<BufId>, b: u32) -> Option<BufId> {
     let b = BufId(b);
     is_buffer(rt, at, Some(b));
     if lru.is_listed(b) { lru.next(b) } else { None }
 }
 
-/// The buffers of a list of VRAM are these.
+/// Asserts that the buffers of a list of VRAM are these.
 fn assert_order(rt: &impl Abort, lru: &Lru, prio: u32, want: &[u32]) {
     ensure(rt, prio < 4);
     let mut at = lru.first(Mem::Vram, prio);
@@ -52,13 +52,13 @@ fn assert_order(rt: &impl Abort, lru: &Lru, prio: u32, want: &[u32]) {
     is_buffer(rt, at, None);
 }
 
-/// Touches a buffer, which is listed.
+/// Touches buffer `b`, which is listed.
 fn touch(rt: &impl Abort, lru: &mut Lru, b: BufId) {
     ensure(rt, lru.is_listed(b));
     lru.touch(b);
 }
 
-/// The odd numbers below 200, and the even ones after them.
+/// Returns the number at `place` of a list of the odd numbers below 200 and the even ones after them.
 fn odd_before_even(place: u32) -> u32
     requires { place < 200 }
 {
@@ -69,7 +69,7 @@ fn odd_before_even(place: u32) -> u32
     }
 }
 
-/// The buffers of the list are the two hundred, the odd ones first.
+/// Asserts that the buffers of the list are the two hundred, the odd ones first.
 fn assert_two_hundred(rt: &impl Abort, lru: &Lru) {
     let mut at = lru.first(Mem::Vram, 0);
     for place in 0..200u32 {
@@ -78,7 +78,7 @@ fn assert_two_hundred(rt: &impl Abort, lru: &Lru) {
     is_buffer(rt, at, None);
 }
 
-/// Moves group 0, and counts.
+/// Moves group 0, and counts the steps.
 fn moved<L: Ledger>(lru: &mut Lru, blank: Blank)
     requires name { blank.name ≡ L.name }
     requires parts { blank.parts ≡ L.parts }
@@ -89,7 +89,7 @@ fn moved<L: Ledger>(lru: &mut Lru, blank: Blank)
     lru.bulk_tail_counted(0, &mut steps);
 }
 
-/// Moves group 0 in a list of VRAM alone, and counts.
+/// Moves group 0 in a list of VRAM alone, and counts the steps.
 fn moved_in<L: Ledger>(lru: &mut Lru, prio: u32, blank: Blank)
     requires name { blank.name ≡ L.name }
     requires parts { blank.parts ≡ L.parts }
@@ -125,7 +125,7 @@ fn victims_in_priority_and_bulk_order(rt: HostRuntime) {
     drop(lru);
 }
 
-/// Two hundred buffers, of which each other one is of group 0.
+/// Lists two hundred buffers, of which every other one is of group 0.
 fn list_two_hundred(rt: &impl Abort, lru: &mut Lru) {
     for b in 0..200 {
         let group = if b % 2 == 0 { Some(0) } else { None };

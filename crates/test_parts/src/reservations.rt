@@ -5,12 +5,12 @@ use resv_object::Resv;
 use std::process::Abort;
 use ttm_base::{JobId, Stamp, Usage};
 
-/// The ticket holds the reservation, or none does.
+/// Asserts that the ticket `holder` holds the reservation, or none does.
 fn is_held(rt: &impl Abort, resv: &Resv, holder: Option<Stamp>) {
     ensure(rt, resv.holder() == holder);
 }
 
-/// A ticket takes the reservation or doesn't, and the third ticket holds it.
+/// Tries to take the reservation for `stamp`. Asserts that it is taken or not, and that the third ticket holds it.
 fn try_take(rt: &impl Abort, resv: &mut Resv, stamp: Stamp, taken: bool) {
     ensure(rt, resv.try_take(stamp) == taken);
     is_held(rt, resv, Some(Stamp(3)));
@@ -34,14 +34,14 @@ fn one_ticket_holds_it(rt: HostRuntime) {
 
 const JOB: JobId = JobId { ctx: 0, num: 1 };
 
-/// Of each usage the job to wait for, where a job writes.
+/// For each usage the job to wait for, where a job writes.
 const WRITTEN: &[(Usage, Option<JobId>)] = &[
     (Usage::Kernel, None),
     (Usage::Write, Some(JOB)),
     (Usage::Read, Some(JOB)),
 ];
 
-/// The write is waited for until the reservation is cleared.
+/// Asserts that the write is waited for until the reservation is cleared.
 fn assert_waits(rt: &impl Abort, resv: &mut Resv, line: &Timeline) {
     ensure(rt, resv.fences().contexts() == line.contexts());
     for (usage, wanted) in WRITTEN {

@@ -3,7 +3,7 @@ use std::process::Abort;
 use ttm_base::Stamp;
 use ww_ticket::{Decision, Tickets, decide};
 
-/// Who asks, whether it holds something, who holds what it asks for, and what comes of it.
+/// The ticket that asks, whether it holds something, the holder of what it asks for, and what comes of it.
 type Row = (Stamp, bool, Option<Stamp>, Decision);
 
 const ROWS: &[Row] = &[
@@ -13,7 +13,7 @@ const ROWS: &[Row] = &[
     (Stamp(2), false, Some(Stamp(1)), Decision::Wait(Stamp(1))),
 ];
 
-/// The one who asks doesn't hold it, and is answered as is wanted.
+/// Asserts that the ticket that asks, which isn't the holder, is answered as is wanted.
 fn assert_decision(rt: &impl Abort, row: &Row) {
     let (mine, holds, holder, wanted) = *row;
     ensure(rt, holder != Some(mine));

@@ -5,7 +5,7 @@ use std::alloc::Global;
 use std::process::Abort;
 use ttm_base::{BufId, Mem, NoMemory, Place, Span};
 
-/// A core in which a ghost holds pages of VRAM.
+/// Makes a core in which a ghost holds pages of VRAM.
 fn core_with(rt: &impl Abort, alloc: Global, held: &[Span]) -> Core {
     let left = ghost_in_vram(alloc, 1, list(rt, alloc, held));
     core_of(Buffers::new(alloc), Jobs::new(alloc), one(rt, alloc, left))
@@ -39,7 +39,7 @@ const CONTIG: Place = Place {
     ..ANYWHERE
 };
 
-/// Tells whether the place has the pages for a case that are wanted: none where it has no choice.
+/// Returns whether the place has the pages for a case that are wanted: none where it has no choice.
 fn has_choice(alloc: Global, script: &Script, core: &Core, case: &Case) -> bool {
     match choice(alloc, script, core, case.buffer, case.place) {
         Ok(Some(pages)) => pages.items() == case.want,

@@ -19,10 +19,10 @@ submit 1 fill a 4000 200 07
 end
 ";
 
-/// How many entries lead to where the first buffer has moved.
+/// The number of entries that lead to where the first buffer has moved.
 const MOVED: usize = 10;
 
-/// How many entries there are.
+/// The number of entries.
 const ALL: usize = 25;
 
 /// The first buffer gets two pages of TT, and frames for both. The job is armed, and the buffer moves to VRAM and leaves a ghost. Both
@@ -57,7 +57,7 @@ journal 25
 25 t1 refused NoBuffer
 ";
 
-/// Tells whether each entry is ready where it comes, and is made.
+/// Returns whether each entry is ready where it comes, and is made.
 fn are_made(alloc: Global, script: &Script, state: &mut State, entries: &[Entry]) -> bool {
     for entry in entries {
         if !is_ready(script, state, entry) || apply(state, alloc, script, entry).is_err() {
@@ -76,8 +76,8 @@ fn count_of(runs: &[FenceRun]) -> u64 {
     count
 }
 
-/// Tells whether the first buffer stands in VRAM and has two fences, the first ghost holds the frames 2 and 0, and the first job has two packets: it
-/// fills up to a page border, and from there on.
+/// Returns whether the first buffer stands in VRAM and has two fences, the first ghost holds the frames 2 and 0, and the first job has two
+/// packets: it fills up to a page border, and from there on.
 fn has_moved(state: &State) -> bool {
     let core = &state.core;
     match (core.buffers.items(), core.ghosts.items(), core.jobs.items()) {
@@ -91,7 +91,7 @@ fn has_moved(state: &State) -> bool {
     }
 }
 
-/// Tells whether there is no ghost, and the thread has answered `count` commands.
+/// Returns whether there is no ghost and the thread has answered `count` commands.
 fn is_over(state: &State, count: u32) -> bool {
     match state.courses.items().first() {
         Some(course) => course.answered == count && state.core.ghosts.len() == 0,

@@ -21,7 +21,7 @@ fn three_jobs(rt: &impl Abort, alloc: Global) -> Jobs {
     jobs
 }
 
-/// Tells whether there are `all` jobs, and `pending` of them after those at the front that are done.
+/// Returns whether there are `all` jobs, and `pending` of them after those at the front that are done.
 fn has_jobs(jobs: &Jobs, all: usize, pending: usize) -> bool {
     jobs.items().len() == all && jobs.pending().len() == pending
 }

@@ -12,26 +12,26 @@ use std::alloc::Global;
 use std::process::Abort;
 use ttm_base::{Fence, ItemList, JobId, Loc, Mem, Packet, Spans};
 
-/// A list of one item.
+/// Makes a list of one item.
 pub fn one<T: Drop>(rt: &impl Abort, alloc: Global, item: T) -> ItemList<T> {
     let mut items = ItemList::new(alloc);
     items.push(item).expect(rt, "an item");
     items
 }
 
-/// A list of copies of these items.
+/// Makes a list of copies of these items.
 pub fn list<T: Copy>(rt: &impl Abort, alloc: Global, items: &[T]) -> ItemList<T> {
     ItemList::from_slice(alloc, items).expect(rt, "items")
 }
 
-/// The script of a text.
+/// Reads the script of a text.
 pub fn script_of(rt: &impl Abort, alloc: Global, text: &str) -> Script
     ensures { is_script result ≡ true }
 {
     read_script(alloc, text.as_bytes()).expect(rt, "a script")
 }
 
-/// These jobs.
+/// Makes a list of the ids of these jobs.
 pub fn ids_of(rt: &impl Abort, alloc: Global, jobs: &[JobId]) -> JobIds {
     let mut ids = JobIds::new(alloc);
     for id in jobs {
@@ -40,7 +40,7 @@ pub fn ids_of(rt: &impl Abort, alloc: Global, jobs: &[JobId]) -> JobIds {
     ids
 }
 
-/// A job of these packets that waits for these, and isn't done.
+/// Makes a job of these packets that waits for the jobs `waits` and isn't done.
 pub fn job_of(
     rt: &impl Abort,
     alloc: Global,
@@ -57,7 +57,7 @@ pub fn job_of(
     }
 }
 
-/// These fences.
+/// Makes a list of these fences.
 fn fences_of(rt: &impl Abort, alloc: Global, fences: &[Fence]) -> Fences {
     let mut all = Fences::new(alloc);
     for fence in fences {
@@ -66,7 +66,7 @@ fn fences_of(rt: &impl Abort, alloc: Global, fences: &[Fence]) -> Fences {
     all
 }
 
-/// A buffer in SYSTEM with these places and fences.
+/// Makes a buffer in SYSTEM with these places and fences.
 pub fn buffer_of(rt: &impl Abort, alloc: Global, places: &[Loc], fences: &[Fence]) -> Buffer {
     Buffer {
         mem: Mem::System,
@@ -81,7 +81,7 @@ pub fn buffer_of(rt: &impl Abort, alloc: Global, places: &[Loc], fences: &[Fence
     }
 }
 
-/// A ghost that holds pages of VRAM.
+/// Makes a ghost that holds pages of VRAM.
 pub fn ghost_in_vram(alloc: Global, num: u64, vram: Spans) -> Ghost {
     Ghost {
         num,
@@ -92,7 +92,7 @@ pub fn ghost_in_vram(alloc: Global, num: u64, vram: Spans) -> Ghost {
     }
 }
 
-/// These buffers, jobs and ghosts, and no move fence.
+/// Makes a core of these buffers, jobs and ghosts, and no move fence.
 pub fn core_of(buffers: Buffers, jobs: Jobs, ghosts: Ghosts) -> Core {
     Core {
         buffers,
@@ -102,7 +102,7 @@ pub fn core_of(buffers: Buffers, jobs: Jobs, ghosts: Ghosts) -> Core {
     }
 }
 
-/// A state with this core, and no thread.
+/// Makes a state with this core, and no thread.
 pub fn state_of(alloc: Global, core: Core) -> State {
     State {
         core,

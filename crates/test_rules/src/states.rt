@@ -25,12 +25,12 @@ const READ: Fence = Fence {
     usage: Usage::Read,
 };
 
-/// A buffer of three pages, whose last job read it.
+/// Makes a buffer of three pages, whose last job read it.
 fn read_buffer(rt: &impl Abort, alloc: Global) -> Buffer {
     buffer_of(rt, alloc, PLACES, &[READ])
 }
 
-/// A ghost that holds two pages of TT and a frame.
+/// Makes a ghost that holds two pages of TT and a frame.
 fn ghost_of(rt: &impl Abort, alloc: Global) -> Ghost {
     Ghost {
         num: 1,
@@ -41,7 +41,7 @@ fn ghost_of(rt: &impl Abort, alloc: Global) -> Ghost {
     }
 }
 
-/// The buffer, its job, which isn't done, and the ghost.
+/// Makes a core of the buffer, its job, which isn't done, and the ghost.
 fn read_core(rt: &impl Abort, alloc: Global) -> Core {
     let buffers = one(rt, alloc, Some(read_buffer(rt, alloc)));
     let ghosts = one(rt, alloc, ghost_of(rt, alloc));
@@ -53,10 +53,10 @@ fn read_core(rt: &impl Abort, alloc: Global) -> Core {
     core
 }
 
-/// Three frames and a slot.
+/// A script with three frames and a slot.
 const SCRIPT: &str = "ttm 1\nvram range 4\ntt 4\nframes 3\nswap 1\nengines 1\nend\n";
 
-/// A state with one list, which has the buffer.
+/// Makes a state with one list, which has the buffer.
 fn listed_state(rt: &impl Abort, alloc: Global) -> State {
     let mut state = state_of(alloc, read_core(rt, alloc));
     let listed = one(rt, alloc, list(rt, alloc, &[A]));
@@ -65,7 +65,7 @@ fn listed_state(rt: &impl Abort, alloc: Global) -> State {
     state
 }
 
-/// Tells whether the list is this one.
+/// Returns whether the list is this one.
 fn are<T: Copy + PartialEq>(items: Result<ItemList<T>, NoMemory>, want: &[T]) -> bool {
     match items {
         Ok(items) => items.items() == want,
@@ -73,7 +73,7 @@ fn are<T: Copy + PartialEq>(items: Result<ItemList<T>, NoMemory>, want: &[T]) ->
     }
 }
 
-/// Tells whether the jobs are the one of engine 1.
+/// Returns whether the jobs are the one of engine 1.
 fn is_job(jobs: Result<JobIds, NoMemory>) -> bool {
     let Ok(jobs) = jobs else {
         return false;
@@ -84,7 +84,7 @@ fn is_job(jobs: Result<JobIds, NoMemory>) -> bool {
     }
 }
 
-/// Tells whether the place is one.
+/// Returns whether there is one place.
 fn is_one_place(alloc: Global, script: &Script) -> bool {
     match asked_places(alloc, script, &Command::SwapOut { b: A }, A) {
         Ok(places) => places.len() == 1,
@@ -107,7 +107,7 @@ fn buffers_pages_and_places_of_commands(rt: HostRuntime) {
     assert!(rt; are_named && are_held && is_asked);
 }
 
-/// The packets of a look at some bytes, which end at a page.
+/// The packets of a probe of some bytes, which end at a page.
 const PIECES: &[Packet] = &[
     Packet::Probe {
         from: PagePlace::Frame(0),
@@ -134,7 +134,7 @@ const FILL: Op = Op::Fill {
     byte: 7,
 };
 
-/// Tells whether the second frame is the lowest that is free, and no slot is.
+/// Returns whether the second frame is the lowest that is free, and no slot is.
 fn is_free(alloc: Global, script: &Script, core: &Core) -> bool {
     matches!(free_frame(alloc, script, core), Ok(Some(1)))
         && matches!(free_slot(alloc, script, core), Ok(None))
@@ -157,7 +157,7 @@ fn what_is_held_and_free_and_waited_for(rt: HostRuntime) {
     assert!(rt; is_held && is_waited_for);
 }
 
-/// Tells whether the search at work of a move to VRAM has one place, and no pressure.
+/// Returns whether the search at work of a move to VRAM has one place, and no pressure.
 fn has_one_place(alloc: Global, script: &Script, state: &State, course: &Course) -> bool {
     let moved = Command::Move {
         b: A,

@@ -37,7 +37,7 @@ const FILL: Packet = Packet::Fill {
 /// A job of engine 1.
 const SECOND: JobId = JobId { ctx: 1, num: 1 };
 
-/// A job of engine 1 waits for the first job.
+/// Makes two jobs, of which the one of engine 1 waits for the first.
 fn waiting_jobs(rt: &impl Abort, alloc: Global) -> Jobs {
     let mut jobs = Jobs::new(alloc);
     jobs.push(job_of(rt, alloc, FIRST, &[], &[FILL]))
@@ -47,7 +47,7 @@ fn waiting_jobs(rt: &impl Abort, alloc: Global) -> Jobs {
     jobs
 }
 
-/// A ghost, which waits for the first job.
+/// Makes a ghost, which waits for the first job.
 fn waiting_ghost(rt: &impl Abort, alloc: Global) -> Ghost {
     Ghost {
         num: 5,
@@ -58,7 +58,7 @@ fn waiting_ghost(rt: &impl Abort, alloc: Global) -> Ghost {
     }
 }
 
-/// The buffer is live in SYSTEM, beside the jobs and the ghost.
+/// Makes a core with the buffer live in SYSTEM, beside the jobs and the ghost.
 fn waiting_core(rt: &impl Abort, alloc: Global) -> Core {
     let buffer = new_buffer(alloc, 1).expect(rt, "a buffer");
     let buffers = one(rt, alloc, Some(buffer));
@@ -66,7 +66,7 @@ fn waiting_core(rt: &impl Abort, alloc: Global) -> Core {
     core_of(buffers, waiting_jobs(rt, alloc), ghosts)
 }
 
-/// A thread with such a stamp, which holds these buffers.
+/// Makes a thread's course with this stamp, which holds these buffers.
 fn course_with(alloc: Global, stamp: Option<Stamp>, held: BufIds) -> Course {
     let mut course = new_course(alloc, 0);
     course.stamp = stamp;
@@ -74,7 +74,7 @@ fn course_with(alloc: Global, stamp: Option<Stamp>, held: BufIds) -> Course {
     course
 }
 
-/// A state with this thread.
+/// Makes a state with this thread.
 fn state_with(rt: &impl Abort, alloc: Global, course: Course) -> State {
     let mut state = state_of(alloc, waiting_core(rt, alloc));
     state
@@ -96,11 +96,11 @@ enum Seen {
     Take(BufId, Mem, Span),
     /// A packet of no pieces shown, by its job's number and its place there.
     Packet(u64, u32),
-    /// It waits for a job.
+    /// A wait for a job.
     Waits(JobId),
 }
 
-/// The entry is the one of a row.
+/// Returns whether the entry is the one of a row.
 fn is_seen(kind: &Kind, want: Seen) -> bool {
     match (kind, want) {
         (Kind::Ticket { s }, Seen::Ticket(stamp)) => *s == stamp,
@@ -115,7 +115,7 @@ fn is_seen(kind: &Kind, want: Seen) -> bool {
     }
 }
 
-/// What an actor waits for is what a row tells.
+/// Returns whether what an actor waits for is what a row tells.
 fn is_awaited(need: Need, want: Seen) -> bool {
     match (need, want) {
         (Need::Fence(job), Seen::Waits(wanted)) => job == wanted,
@@ -123,7 +123,7 @@ fn is_awaited(need: Need, want: Seen) -> bool {
     }
 }
 
-/// The next step of an actor is the one of a row.
+/// Returns whether the next step of an actor is the one of a row.
 fn comes(alloc: Global, script: &Script, state: &State, who: Actor, want: Seen) -> bool {
     if !has_room(script, state) {
         return false;

@@ -5,7 +5,7 @@ use std::alloc::Global;
 use std::process::Abort;
 use ttm_base::{Actor, BufId, JobId, Loc, NoMemory, Packet, PagePlace};
 
-/// Sizes alone.
+/// A script of sizes alone.
 const SCRIPT: &str = "ttm 1\nvram range 1\ntt 1\nframes 2\nswap 1\nengines 1\nend\n";
 
 const ENGINE: Actor = Actor::Engine(1);
@@ -14,7 +14,7 @@ const B: BufId = BufId(0);
 
 const JOB: JobId = JobId { ctx: 1, num: 1 };
 
-/// A fill of the last bytes of a frame, and a look at another frame.
+/// A fill of the last bytes of a frame, and a probe of another frame.
 const PACKETS: &[Packet] = &[
     Packet::Fill {
         to: PagePlace::Frame(0),
@@ -29,7 +29,7 @@ const PACKETS: &[Packet] = &[
     },
 ];
 
-/// A buffer of one page, and the job.
+/// Makes a core of a buffer of one page, and the job.
 fn filled_core(rt: &impl Abort, alloc: Global) -> Core {
     let buffer = buffer_of(rt, alloc, &[Loc::Frame(0)], &[]);
     let buffers = one(rt, alloc, Some(buffer));
@@ -39,7 +39,7 @@ fn filled_core(rt: &impl Abort, alloc: Global) -> Core {
     core_of(buffers, jobs, Ghosts::new(alloc))
 }
 
-/// The engine makes an entry that holds no list, and tells whether it could.
+/// Makes an entry of the engine that holds no list, and returns whether it could.
 fn make(script: &Script, state: &State, stores: &mut PlainStores, kind: Kind) -> bool {
     let can = can_store(script, state, ENGINE, &kind);
     let entry = Entry { who: ENGINE, kind };
@@ -50,7 +50,7 @@ fn make(script: &Script, state: &State, stores: &mut PlainStores, kind: Kind) ->
     can
 }
 
-/// A packet of the job, which has shown nothing yet.
+/// Returns a packet of the job, which has shown nothing yet.
 fn packet(alloc: Global, k: u32) -> Kind {
     Kind::Packet {
         num: 1,
@@ -59,7 +59,7 @@ fn packet(alloc: Global, k: u32) -> Kind {
     }
 }
 
-/// The page is filled, goes to the slot and comes back into the other frame. Tells whether it could.
+/// Fills the page, swaps it out to the slot and back into the other frame. Returns whether it could.
 fn swap_the_page(alloc: Global, script: &Script, state: &State, stores: &mut PlainStores) -> bool {
     make(script, state, stores, packet(alloc, 0))
         && make(
@@ -85,7 +85,7 @@ fn swap_the_page(alloc: Global, script: &Script, state: &State, stores: &mut Pla
         )
 }
 
-/// Tells whether the packet shows these bytes.
+/// Returns whether the packet shows these bytes.
 fn has_shown(shown: Result<Kind, NoMemory>, want: &[u8]) -> bool {
     match shown {
         Ok(Kind::Packet { piece, .. }) => piece.items() == want,

@@ -26,7 +26,7 @@ fn three_courses(rt: &impl Abort, alloc: Global) -> Courses {
     courses
 }
 
-/// A job of engine 1 has run.
+/// Makes a state where a job of engine 1 has run.
 fn state_with_tickets(rt: &impl Abort, alloc: Global) -> State {
     let mut jobs = Jobs::new(alloc);
     jobs.push(job_of(rt, alloc, JOB, &[], &[]))
@@ -49,7 +49,7 @@ const ORDER: &[Actor] = &[
     Actor::Thread(1),
 ];
 
-/// The order of the actors is this one.
+/// Returns whether the order of the actors is this one.
 fn has_order(alloc: Global, script: &Script, state: &State, want: &[Actor]) -> bool {
     if !has_room(script, state) {
         return false;
@@ -60,7 +60,7 @@ fn has_order(alloc: Global, script: &Script, state: &State, want: &[Actor]) -> b
     }
 }
 
-/// The actor is the first that has an entry.
+/// Returns whether the actor is the first that has an entry.
 fn goes_next(alloc: Global, script: &Script, state: &State, who: Actor) -> bool {
     if !has_room(script, state) {
         return false;

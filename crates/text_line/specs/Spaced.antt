@@ -1,4 +1,4 @@
--- Words of a line as they are put one after the other.
+-- Words of a line, one after the other.
 use Rattle.std.specs.Prelude.{ℕ, List, ◌∷◌, flat_map}
 use Rattle.journal_model.specs.scripts.Words.{Text}
 

@@ -1,4 +1,4 @@
-//! A text in the making, and the words that reports and scripts both have.
+//! A text that is being made, and the words that reports and scripts have in common.
 #![tactic(auto)]
 
 ghost use Rattle.std.specs.Prelude.{◌≡◌, ◌++◌, ◌∷◌, [], OnOk, decimal};
@@ -12,7 +12,7 @@ mod words;
 
 pub use words::{mem_word, name_of, put_actor, put_hex, put_hex_byte, put_numbered};
 
-/// A line in the making, or several. After lack of memory a part of what was to be put may stand at its end.
+/// A line that is being made, or several. Where memory is refused a part of what was to be added may be at its end.
 #[derive(Drop)]
 pub struct Line {
     bytes: Vec<u8>,
@@ -35,7 +35,7 @@ impl Line {
         }
     }
 
-    /// Begins another line in the same memory.
+    /// Removes all text, and keeps the memory for another line.
     pub fn clear(&mut self)
         ensures { self.new ≡ [] }
     {
@@ -75,7 +75,7 @@ impl Line {
         self.put(digits.format(number).as_bytes())
     }
 
-    /// Puts a space and a word.
+    /// Adds a space and a word.
     pub fn word(&mut self, word: &[u8]) -> Result<(), NoMemory>
         ensures { OnOk result (self.new ≡ self.old ++ 32 ∷ word.now) }
     {
@@ -83,7 +83,7 @@ impl Line {
         self.put(word)
     }
 
-    /// Puts a space and a number.
+    /// Adds a space and a number in decimal.
     pub fn number(&mut self, number: u64) -> Result<(), NoMemory>
         ensures { OnOk result (self.new ≡ self.old ++ 32 ∷ decimal number) }
     {
@@ -91,7 +91,7 @@ impl Line {
         self.put_number(number)
     }
 
-    /// Puts the end of a line.
+    /// Adds the end of a line.
     pub fn end_line(&mut self) -> Result<(), NoMemory>
         ensures { OnOk result (self.new ≡ self.old ++ 10 ∷ []) }
     {

@@ -5,7 +5,7 @@ use crate::Line;
 use journal_model::Script;
 use ttm_base::{Actor, BufId, Mem, NoMemory};
 
-/// The declared name of a buffer.
+/// Returns the declared name of a buffer.
 pub fn name_of(script: &Script, b: BufId) -> &[u8]
     ensures { result.now ≡ name_of script.now b }
 {
@@ -35,7 +35,7 @@ pub fn put_actor(line: &mut Line, who: Actor) -> Result<(), NoMemory>
     }
 }
 
-/// Puts a letter and a number.
+/// Adds a letter and a number in decimal.
 pub fn put_numbered(line: &mut Line, letter: u8, number: u64) -> Result<(), NoMemory>
     ensures { OnOk result (line.new ≡ line.old ++ letter ∷ decimal number) }
 {
@@ -43,7 +43,7 @@ pub fn put_numbered(line: &mut Line, letter: u8, number: u64) -> Result<(), NoMe
     line.put_number(number)
 }
 
-/// Puts the bytes, each as two digits.
+/// Adds the bytes, each as two hexadecimal digits.
 pub fn put_hex(line: &mut Line, bytes: &[u8]) -> Result<(), NoMemory>
     ensures { OnOk result (line.new ≡ line.old ++ hex bytes.now) }
 {

@@ -6,7 +6,7 @@ use Rattle.ttm_base.specs.ListWords.{count_from}
 use Rattle.journal_model.specs.declared.script.Script.{Script}
 use Rattle.journal_model.specs.statements.Complete.{thread_numbers}
 
--- the threads by number, the engines by number, and the reaper
+-- all actors: the threads by number, the engines by number, and the reaper
 abbrev pub all_actors : Script → List Actor
 all_actors script =
     map actor.Thread (thread_numbers script) ++ map actor.Engine (count_from 1 (script.sizes.engines + 1) 0) ++ actor.Reaper ∷ []

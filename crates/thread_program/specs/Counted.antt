@@ -9,7 +9,7 @@ use Rattle.program_edges.specs.Edges.{Edge, IsUntouched, IsWritten, IsBroken, Is
 use Rattle.thread_program.specs.declared.counts.Counts.{Counts}
 use Rattle.thread_program.specs.Ran.{IsThreaded}
 
--- three threads, their commands and as many results and refusals, and no read that shows other bytes than the plain memory has
+-- the counts of a run: three threads, their commands and as many results and refusals, and no read that shows other bytes than the plain memory has
 abbrev pub load_counts : Counts
 load_counts = record {
   threads = 3;
@@ -18,7 +18,7 @@ load_counts = record {
   mismatches = 0;
 }
 
--- a line for each number
+-- the text of the counts, with a line for each number
 abbrev pub counts_text : ℕ → Counts → Text
 counts_text n counts =
     line (codes "gen" ∷ decimal n ∷ [])
@@ -27,14 +27,14 @@ counts_text n counts =
     ++ line (codes "results" ∷ decimal counts.results ∷ [])
     ++ line (codes "mismatches" ∷ decimal counts.mismatches ∷ [])
 
--- a legal, complete journal of the script of the number
+-- the device has a legal, complete journal of the script drawn from `n`
 pub record HasRunLoad (n : ℕ) (k : Kept) : Type 0 where
   pub of : k.script ≡ load_script n
   pub load : IsLoad k.script
   pub ran : IsThreaded k.script k
 
--- The status: done where the counts of a run were written whole; else a write failed or memory ran out, and a front of them was
--- written, or nothing where memory ran out before.
+-- The status is done where the counts of a run were written whole; else a write failed or memory ran out, and a front of them was written, or
+-- nothing where memory ran out before.
 pub data EndsCounted (n : ℕ) (sink : Edge) : Status → Type 0 where
   told : (k : Kept) → HasRunLoad n k → IsWritten sink (counts_text n load_counts) → EndsCounted n sink status.Done
   broken : (k : Kept) → HasRunLoad n k → IsBroken sink (counts_text n load_counts) → EndsCounted n sink status.WriteFault

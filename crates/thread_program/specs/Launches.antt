@@ -5,7 +5,7 @@ use Rattle.journal_model.specs.scripts.Reading.{number_in}
 use Rattle.thread_program.specs.declared.launch.Launch.{Launch}
 use Rattle.thread_program.specs.declared.launch.Launch.TheVariants as launch
 
--- run; or gen and a plain number that 64 bits hold
+-- the request of the words: `run`; or `gen` and a plain number that 64 bits hold
 abbrev pub launch_of : List Text → Option Launch
 launch_of (w ∷ []) = if bytes_eq w (codes "run") then Some launch.Run else None
 launch_of (w ∷ n ∷ []) = if bytes_eq w (codes "gen") then option_map launch.Gen (number_in 0 18446744073709551615 n) else None

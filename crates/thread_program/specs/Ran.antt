@@ -6,7 +6,7 @@ use Rattle.journal_model.specs.statements.Complete.{is_complete}
 use Rattle.simulator.specs.Ends.{KeepsLaws}
 use Rattle.simulator.specs.Ends.{Kept}
 
--- a legal, complete journal of the script, which keeps the laws
+-- the device has a legal, complete journal of the script, which keeps the laws
 pub record IsThreaded (script : Script) (k : Kept) : Type 0 where
   pub of : k.script ≡ script
   pub legal : IsLegal script k.journal

@@ -14,13 +14,13 @@ use Rattle.thread_program.specs.declared.launch.Launch.TheVariants as launch
 use Rattle.thread_program.specs.Counted.{EndsCounted}
 use Rattle.thread_program.specs.Ran.{IsThreaded}
 
--- the source gave this script, which was run
+-- the source gave a script, which was run on threads
 pub record HasThreaded (source : Edge) (k : Kept) : Type 0 where
   pub script : Script
   pub gave : GaveScript source script
   pub ran : IsThreaded script k
 
--- what a run on threads comes to
+-- the outcome of a run on threads, by what the source gave
 abbrev pub ComesThreaded : Edge → Outcome → Type 0
 ComesThreaded source outcome.ReadFault = WasCutOff source 1048576
 ComesThreaded source (outcome.BadScript n rule) = GaveFault source n rule

@@ -7,7 +7,7 @@ use journal_model::Script;
 use std::alloc::Global;
 use ttm_base::{Actor, ItemList, NoMemory};
 
-/// Puts the threads from 1 on after other actors.
+/// Appends `count` threads to `actors`, numbered from 1.
 fn push_threads(actors: &mut ItemList<Actor>, count: u32) -> Result<(), NoMemory>
     ensures { OnOk result (actors.new ≡ actors.old ++ map actor.Thread (count_from 1 count 1)) }
 {
@@ -17,7 +17,7 @@ fn push_threads(actors: &mut ItemList<Actor>, count: u32) -> Result<(), NoMemory
     Ok(())
 }
 
-/// Puts the engines from 0 on after other actors.
+/// Appends the engines from 0 up to `engines` to `actors`.
 fn push_engines(actors: &mut ItemList<Actor>, engines: u32) -> Result<(), NoMemory>
     ensures { OnOk result (actors.new ≡ actors.old ++ map actor.Engine (count_from 1 (engines + 1) 0)) }
 {
@@ -27,7 +27,7 @@ fn push_engines(actors: &mut ItemList<Actor>, engines: u32) -> Result<(), NoMemo
     Ok(())
 }
 
-/// All actors of a script: the threads by number, the engines by number, and the reaper.
+/// Returns all actors of `script`: the threads by number, the engines by number, and the reaper.
 pub fn actors_of(alloc: Global, script: &Script) -> Result<ItemList<Actor>, NoMemory>
     requires { length script.now.threads ≤ 16 }
     ensures { IfOk result (λ actors. actors ≡ all_actors script.now) }

@@ -15,14 +15,14 @@ use simulator::Device;
 use std::alloc::Global;
 use ttm_base::NoMemory;
 
-/// What a run came to, in numbers.
+/// The counts of a run.
 #[derive(Clone, Copy, PartialEq, Eq)]
 pub struct Counts {
     pub threads: u64,
     pub commands: u64,
-    /// Results and refusals.
+    /// The number of results and refusals.
     pub results: u64,
-    /// Reads that show other bytes than a memory where each buffer has its own place for good.
+    /// The number of reads that show other bytes than a memory where each buffer has its own place for good.
     pub mismatches: u64,
 }
 
@@ -41,7 +41,7 @@ fn counts_of(alloc: Global, device: &Device) -> Result<Counts, NoMemory>
     })
 }
 
-/// Puts a line of a name and a number.
+/// Appends a line with `name` and `number` to `text`.
 fn put_count(text: &mut Vec<u8>, name: &[u8], number: u64) -> Result<(), NoMemory>
     ensures { OnOk result (text.new.items ≡ text.old.items ++ line (name.now ∷ decimal number ∷ [])) }
 {
@@ -65,7 +65,7 @@ fn counts_text(alloc: Global, number: u64, counts: Counts) -> Result<Vec<u8>, No
     Ok(text)
 }
 
-/// Writes what is counted of a run of the script that was drawn from the number.
+/// Writes the counts of a run of the script that was drawn from `number` to `sink`.
 pub(crate) fn write_counts<K: Sink>(
     alloc: Global,
     number: u64,

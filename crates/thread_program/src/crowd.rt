@@ -12,8 +12,8 @@ use ttm_base::NoMemory;
 use turn_lock::Turns;
 use worker_pool::{Gate, work_all};
 
-/// Runs a script on threads, one worker for each actor and the caller as the last, until its journal is complete. A schedule in
-/// the script isn't used.
+/// Runs `script` on threads, with one worker for each actor and the caller as the last, until its journal is complete. A schedule in the script
+/// isn't used.
 ///
 /// # Errors
 ///

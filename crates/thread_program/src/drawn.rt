@@ -7,7 +7,7 @@ use script_text::{ScriptFault, read_script};
 use std::alloc::Global;
 use ttm_base::NoMemory;
 
-/// The script that is read from the text that is drawn from a number.
+/// Draws a text from `number`, and returns the script that is read from it.
 #[tactic(auto, using(crate::proofs::DrawnLaws::read_is))]
 pub(crate) fn read_drawn(alloc: Global, number: u64) -> Result<Script, NoMemory>
     ensures script { IfOk result (λ script. script ≡ load_script number) }

@@ -4,7 +4,7 @@ ghost use Rattle.thread_program.specs.Launches.{launch_of};
 use command_words::{Words, plain_number};
 use script_words::words::is;
 
-/// What the words ask beside the simulator.
+/// A request of the command line that the simulator doesn't serve.
 #[derive(Clone, Copy, PartialEq, Eq)]
 pub enum Launch {
     /// Run a script, one worker for each actor.
@@ -13,7 +13,7 @@ pub enum Launch {
     Gen(u64),
 }
 
-/// What the words ask beside the simulator, if they do.
+/// Returns the request of the command line, or None where it is one for the simulator.
 pub fn read_launch(words: &Words) -> Option<Launch>
     ensures { result ≡ launch_of words.now }
 {

@@ -1,4 +1,4 @@
-//! The program from words and bytes to a report and a status, with threads.
+//! The program with threads, from its command line and input to a report and an exit status.
 #![tactic(auto)]
 
 mod actors;

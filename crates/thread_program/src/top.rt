@@ -24,7 +24,7 @@ use std::thread::Threads;
 use ttm_base::NoMemory;
 use worker_pool::Gate;
 
-/// Reads a script, and runs it on threads.
+/// Reads a script from `source`, and runs it on threads.
 fn outcome_of<R: Threads + Wait + Sync, S: Source, G: Gate + Sync>(
     rt: &R,
     alloc: Global,
@@ -44,7 +44,7 @@ fn outcome_of<R: Threads + Wait + Sync, S: Source, G: Gate + Sync>(
     }
 }
 
-/// Runs the script that the source gives on threads, and then writes the text of what it came to.
+/// Runs the script that `source` gives on threads, and then writes the text of its outcome to `sink`.
 ///
 /// # Errors
 ///
@@ -67,7 +67,7 @@ pub fn tell_run<R: Threads + Wait + Sync, S: Source, K: Sink, G: Gate + Sync>(
     Ok(Told { outcome, written })
 }
 
-/// Runs the script that the source gives on threads, and answers the status.
+/// Runs the script that `source` gives on threads, and returns the exit status.
 fn run_top<R: Threads + Wait + Sync, S: Source, K: Sink, G: Gate + Sync>(
     rt: &R,
     alloc: Global,
@@ -85,7 +85,7 @@ fn run_top<R: Threads + Wait + Sync, S: Source, K: Sink, G: Gate + Sync>(
     }
 }
 
-/// Draws a script from a number, and runs it on threads.
+/// Draws a script from `number`, and runs it on threads.
 fn run_drawn<R: Threads + Wait + Sync, G: Gate + Sync>(
     rt: &R,
     alloc: Global,
@@ -105,7 +105,7 @@ pub struct ToldCounts {
     pub written: Result<(), WriteFault>,
 }
 
-/// Draws a script from `number`, runs it on threads, and then writes what is counted of the run.
+/// Draws a script from `number`, runs it on threads, and then writes the counts of the run to `sink`.
 ///
 /// # Errors
 ///
@@ -127,7 +127,7 @@ pub fn tell_counts<R: Threads + Wait + Sync, K: Sink, G: Gate + Sync>(
     Ok(ToldCounts { device, written })
 }
 
-/// Runs the script that is drawn from a number on threads, and answers the status.
+/// Runs the script that is drawn from `number` on threads, and returns the exit status.
 fn gen_top<R: Threads + Wait + Sync, K: Sink, G: Gate + Sync>(
     rt: &R,
     alloc: Global,
@@ -149,7 +149,7 @@ fn gen_top<R: Threads + Wait + Sync, K: Sink, G: Gate + Sync>(
     }
 }
 
-/// Does what the words ask, on threads where they ask for them.
+/// Does what the command line asks, on threads where it asks for them, and returns the exit status.
 pub fn ttm_top<R: Threads + Wait + Sync, S: Source, K: Sink, G: Gate + Sync>(
     rt: &R,
     alloc: Global,

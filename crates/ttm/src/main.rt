@@ -12,7 +12,7 @@ use thread_program::{Status, ttm_top};
 use ttm_base::NoMemory;
 use worker_pool::IdleGate;
 
-/// The words after the program's name. Where one isn't text (UTF-8), the library tells none, and no words ask for nothing that the
+/// Returns the words after the program's name. Where one isn't text (UTF-8), the library tells none, and no words ask for nothing that the
 /// program knows.
 ///
 /// # Errors

@@ -1,4 +1,4 @@
--- The candidates of a buddy choice by the starts of blocks, as a scan meets them.
+-- The candidates of a buddy choice by the starts of their blocks, in the order in which a scan meets them.
 use Rattle.std.specs.Prelude.{ℕ, ◌/◌, ◌^◌, ◌&&◌, Bool, List, Option, Some, None, reverse, if◌then◌else◌}
 use Rattle.ttm_base.specs.declared.Span.{Span}
 use Rattle.ttm_base.specs.ListWords.{count_from}

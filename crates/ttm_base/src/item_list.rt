@@ -4,8 +4,8 @@ use crate::NoMemory;
 use std::alloc::Global;
 use std::marker::Model;
 
-/// A list of items in memory, seen as a list. How much room it has can't be seen. A step that makes several lists longer does
-/// so one by one, and where memory is refused cuts each back to the length that it had, which can't fail.
+/// A list of items in memory, seen as a list. Its capacity can't be seen. A step that makes several lists longer does so one
+/// by one, and where memory is refused truncates each to the length that it had before, which can't fail.
 #[derive(Drop)]
 pub struct ItemList<T> {
     items: Vec<T>,
@@ -20,7 +20,7 @@ impl<T> Model for ItemList<T> {
 }
 
 impl<T> ItemList<T> {
-    /// The empty list.
+    /// Returns the empty list.
     pub fn new(alloc: Global) -> ItemList<T>
         ensures { result ≡ [] }
     {
@@ -29,7 +29,7 @@ impl<T> ItemList<T> {
         }
     }
 
-    /// Puts an item at the end.
+    /// Pushes `item` at the end. Where memory is refused the list stays as it was.
     pub fn push(&mut self, item: T) -> Result<(), NoMemory>
     where
         T: Drop,
@@ -40,7 +40,7 @@ impl<T> ItemList<T> {
         Ok(())
     }
 
-    /// Puts an item at a position, before the one that was there.
+    /// Inserts `item` at `index`, before the item that was there. Where memory is refused the list stays as it was.
     pub fn insert(&mut self, index: usize, item: T) -> Result<(), NoMemory>
     where
         T: Drop,
@@ -52,14 +52,14 @@ impl<T> ItemList<T> {
         Ok(())
     }
 
-    /// The number of items.
+    /// Returns the number of items.
     pub fn len(&self) -> usize
         ensures { result ≡ length self.now }
     {
         self.items.len()
     }
 
-    /// The items, in order.
+    /// Lends the items as a slice, in order.
     pub fn items(&self) -> &[T]
         ensures { result.now ≡ self.now }
     {
@@ -72,7 +72,7 @@ impl<T> ItemList<T> {
     ghost use Rattle.ttm_base.specs.Lending.{lends_item};
     ghost use Rattle.std.specs.Prelude.{◌≡◌, ◌<◌, [], length, remove, slice_get, slice_set, Some};
 
-    /// Lends the item at a position.
+    /// Lends the item at `index`.
     #[tactic(auto, using(std::proofs::lemmas::Option::slice_get_read))]
     pub fn get(&self, index: usize) -> &T
         requires { index < length self.now }
@@ -81,7 +81,7 @@ impl<T> ItemList<T> {
         &self.items[index]
     }
 
-    /// Lends the item at a position for writing.
+    /// Lends the item at `index` for writing.
     pub fn get_mut(&mut self, index: usize) -> &mut T
         requires { index < length self.old }
         ensures* writes_back { sem 𝓛 (lends_item T.row self.entry index result) }
@@ -90,7 +90,7 @@ impl<T> ItemList<T> {
         &mut self.items[index]
     }
 
-    /// Puts another item at a position.
+    /// Replaces the item at `index` by `item`.
     pub fn set(&mut self, index: usize, item: T)
     where
         T: Drop,
@@ -100,7 +100,7 @@ impl<T> ItemList<T> {
         self.items[index] = item;
     }
 
-    /// Takes the item at a position out. Those after it move up.
+    /// Removes the item at `index` and returns it. The items after it move up.
     pub fn remove(&mut self, index: usize) -> T
         requires { index < length self.old }
         ensures left { self.new ≡ remove self.old index }
@@ -109,7 +109,7 @@ impl<T> ItemList<T> {
         self.items.remove(index)
     }
 
-    /// Keeps so many items from the start, and drops the others.
+    /// Keeps the first `len` items, and drops the others.
     pub fn truncate(&mut self, len: usize)
     where
         T: Drop,
@@ -118,7 +118,7 @@ impl<T> ItemList<T> {
         self.items.truncate(len);
     }
 
-    /// Takes all items out, and keeps their room.
+    /// Drops all items, and keeps their memory.
     pub fn clear(&mut self)
     where
         T: Drop,
@@ -129,7 +129,7 @@ impl<T> ItemList<T> {
 }
 
 impl<T: Copy> ItemList<T> {
-    /// A list of copies of these items.
+    /// Copies the items of a slice into a new list.
     pub fn from_slice(alloc: Global, items: &[T]) -> Result<ItemList<T>, NoMemory>
         ensures { IfOk result (λ list. list ≡ items.now) }
     {
@@ -137,14 +137,14 @@ impl<T: Copy> ItemList<T> {
         Ok(ItemList { items })
     }
 
-    /// A second list of the same items.
+    /// Copies the list.
     pub fn copy(&self) -> Result<ItemList<T>, NoMemory>
         ensures { IfOk result (λ list. list ≡ self.now) }
     {
         ItemList::from_slice(*self.items.allocator(), self.items())
     }
 
-    /// Puts copies of these items at the end: all of them, or none where memory is refused.
+    /// Appends copies of `items`: all of them, or none where memory is refused.
     pub fn extend(&mut self, items: &[T]) -> Result<(), NoMemory>
         ensures ok { OnOk result (self.new ≡ self.old ++ items.now) }
         ensures err { OnErr result (self.new ≡ self.old) }
@@ -153,7 +153,7 @@ impl<T: Copy> ItemList<T> {
         Ok(())
     }
 
-    /// The item at a position.
+    /// Returns a copy of the item at `index`.
     pub fn at(&self, index: usize) -> T
         requires { index < length self.now }
         ensures { slice_get self.now index ≡ Some result }

@@ -1,64 +1,64 @@
 //! Sizes and limits that definitions, scripts and code share.
 
-/// Bytes of a page, of a frame and of a swap slot.
+/// The size of a page, of a frame and of a swap slot in bytes.
 pub const PAGE_BYTES: u32 = 4096;
 
-/// Bytes of the longest script.
+/// The greatest length of a script in bytes.
 pub const MAX_SCRIPT_BYTES: usize = 1_048_576;
 
-/// Bytes of the longest input of `check`, a script and its report.
+/// The greatest length of an input of `check`, which is a script and its report, in bytes.
 pub const MAX_CHECK_BYTES: usize = 68_157_440;
 
-/// Threads of a script.
+/// The greatest number of threads of a script.
 pub const MAX_THREADS: usize = 16;
 
-/// Lines of a thread: its commands and its marks.
+/// The greatest number of lines of a thread: its commands and its marks.
 pub const MAX_THREAD_LINES: u32 = 4096;
 
-/// Declared buffers of a script.
+/// The greatest number of buffers that a script declares.
 pub const MAX_BUFFERS: usize = 256;
 
-/// Pages of a buffer.
+/// The greatest size of a buffer in pages.
 pub const MAX_BUFFER_PAGES: u32 = 4096;
 
-/// Pages of the largest alignment.
+/// The greatest alignment in pages.
 pub const MAX_ALIGN: u32 = 4096;
 
-/// Places of a list.
+/// The greatest number of places of a placement.
 pub const MAX_PLACES: usize = 8;
 
-/// Pages of VRAM, pages of TT, and frames.
+/// The greatest number of pages of VRAM, of pages of TT, and of frames.
 pub const MAX_MEMORY_PAGES: u32 = 16_384;
 
-/// Swap slots.
+/// The greatest number of swap slots.
 pub const MAX_SLOTS: u32 = 32_768;
 
-/// Engines of a script, without the move engine.
+/// The greatest number of engines of a script, not counting the move engine.
 pub const MAX_ENGINES: u32 = 8;
 
-/// Fence contexts: the move engine, and the engines of a script.
+/// The number of fence contexts: one of the move engine, and one of each engine of a script.
 pub const CONTEXTS: usize = 9;
 
-/// Groups for bulk moves.
+/// The number of groups for bulk moves.
 pub const GROUPS: u32 = 16;
 
-/// Pins of a buffer.
+/// The greatest number of pins of a buffer.
 pub const MAX_PINS: u8 = 255;
 
-/// Buffers that a job names.
+/// The greatest number of buffers that a job names.
 pub const MAX_JOB_BUFFERS: usize = 16;
 
-/// Operations of a job.
+/// The greatest number of operations of a job.
 pub const MAX_JOB_OPS: usize = 64;
 
-/// Actors of a `schedule` line.
+/// The greatest number of actors of a `schedule` line.
 pub const MAX_LINE_ACTORS: usize = 64;
 
-/// Bytes of a read, a write or a probe.
+/// The greatest number of bytes of a read, a write or a probe.
 pub const MAX_SHOWN_BYTES: u32 = 256;
 
-/// Bytes of all operations of a script together.
+/// The greatest number of bytes of all operations of a script together.
 pub const MAX_OP_BYTES: u32 = 67_108_864;
 
-/// Pages of the address space of a thread.
+/// The size of the address space of a thread in pages.
 pub const SPACE_PAGES: u32 = 1_048_576;

@@ -7,10 +7,10 @@ pub record Begins (batch : Batch) : Type 0 where
   pub some : 1 ≤ batch.left
   pub few : batch.left ≤ 64
 
--- the caller's own batch goes on, or one begins
+-- the caller's own batch continues, or another one begins
 abbrev pub Resumes : Option Batch → Batch → Type 0
 Resumes before batch = (before ≡ Some batch) ⊎ Begins batch
 
--- the same batch with less of its budget, which ends at 0
+-- the same batch with less of its budget, down to 0 at least
 abbrev pub charged : Batch → ℕ → Batch
 charged batch cost = record batch { left = batch.left - cost }

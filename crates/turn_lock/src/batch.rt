@@ -1,5 +1,5 @@
-//! Batches of turns, as cohort locks have them: one caller takes several turns in a row, while others sleep until the handoff. No turn
-//! needs a batch: whoever waits too long for the handoff begins one.
+//! Batches of turns, as cohort locks have them: one caller takes several turns in a row, while others sleep until the
+//! handoff. No turn needs a batch: a caller that waits too long for the handoff begins one.
 ghost use Rattle.std.specs.Prelude.{◌≡◌, IfSome};
 ghost use Rattle.turn_lock.specs.Batches.{Begins, Resumes, charged};
 
@@ -11,10 +11,10 @@ use std::time::Duration;
 /// The greatest budget of a batch.
 const MAX_BUDGET: u64 = 64;
 
-/// How many milliseconds a caller sleeps at most while one batch goes on.
+/// The longest time in milliseconds that a caller sleeps while one batch goes on.
 const MAX_SLEEP_MILLIS: u64 = 20;
 
-/// Passes the lock on from one batch of turns to the next.
+/// A word by which the lock is handed off from one batch of turns to the next.
 #[derive(Drop)]
 pub struct Handoff {
     /// Twice the number of batches that began, and one more while the handoff is offered.
@@ -25,19 +25,19 @@ pub struct Handoff {
 #[derive(Clone, Copy)]
 pub struct Batch {
     word: u64,
-    /// What is left of its budget. At 0 the handoff is offered.
+    /// The rest of its budget. At 0 the handoff is offered.
     pub left: u64,
 }
 
 impl Handoff {
-    /// Makes a handoff that is offered.
+    /// Returns a handoff that is offered.
     pub(crate) fn new() -> Handoff {
         Handoff {
             word: AtomicU64::new(1),
         }
     }
 
-    /// Goes on with `batch` if no other one began since. Otherwise waits for the handoff, and begins one.
+    /// Continues `batch` if no other one began since. Otherwise waits for the handoff, and begins a batch.
     pub fn resume<R: Wait>(&self, rt: &R, batch: Option<Batch>) -> Batch
         ensures { Resumes batch result }
     {
@@ -47,7 +47,7 @@ impl Handoff {
         }
     }
 
-    /// Takes `cost` off the budget of `batch`, which ends at 0. Offers the handoff where nothing is left.
+    /// Takes `cost` off the budget of `batch`, down to 0 at least. Offers the handoff where nothing is left.
     pub fn charge(&self, batch: Batch, cost: u64) -> Batch
         ensures { result ≡ charged batch cost }
     {
@@ -71,7 +71,7 @@ impl Handoff {
         }
     }
 
-    /// Begins a batch as soon as the handoff is offered, or where one batch went on for all the time that the caller slept.
+    /// Begins a batch as soon as the handoff is offered, or after one batch went on for all the time that the caller slept.
     fn enter<R: Wait>(&self, rt: &R) -> Batch
         ensures { Begins result }
     {
@@ -89,7 +89,8 @@ impl Handoff {
         unreachable!()
     }
 
-    /// Begins a batch, if the handoff's word is still `word`. Budgets differ, so that handoffs come at other entries each time.
+    /// Begins a batch, if the word of the handoff is still `word`, else returns None. Budgets differ, so that handoffs come
+    /// at other entries each time.
     fn begin(&self, word: u64) -> Option<Batch>
         ensures { IfSome result Begins }
     {

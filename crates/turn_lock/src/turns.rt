@@ -20,10 +20,10 @@ const SERVED: usize = 1;
 
 const LENGTH: usize = 2;
 
-/// How often a caller looks whether its number is served before it sleeps.
+/// The number of looks at the number served before a caller sleeps.
 const LOOKS: u64 = 200;
 
-/// A value that callers hold in turn.
+/// A lock of a value, which callers hold in turn.
 #[derive(Drop)]
 pub struct Turns<V: Logged> {
     table: Lanes<V>,
@@ -79,7 +79,7 @@ impl<V: Logged> Turns<V> {
         }
     }
 
-    /// The number of contexts that was given to `new`.
+    /// Returns the number of contexts that was given to `new`.
     pub fn contexts(&self) -> u32
         ensures { result ≡ context_count self.now }
     {
@@ -91,7 +91,7 @@ impl<V: Logged> Turns<V> {
         &self.handoff
     }
 
-    /// A second pass, which has seen the same.
+    /// Returns a second pass, which has seen what `pass` has seen.
     pub fn split(&self, pass: &mut Pass<V>) -> Pass<V>
         requires own { pass.old.table_id ≡ lock_id self.now }
         requires free { IsFree pass.old }
@@ -101,7 +101,7 @@ impl<V: Logged> Turns<V> {
         self.table.shared.split_seat::<Tell>(pass)
     }
 
-    /// The pass takes in what the other has seen.
+    /// Adds to `pass` what `other` has seen.
     pub fn join(&self, pass: &mut Pass<V>, other: Pass<V>)
         requires own { (pass.old.table_id ≡ lock_id self.now) × (other.table_id ≡ lock_id self.now) }
         requires free { IsFree pass.old × IsFree other }
@@ -130,14 +130,14 @@ impl<V: Logged> Turns<V> {
                     return number;
                 }
             } else {
-                // No number is left, and this waits for ever.
+                // No number is left: this waits for ever.
                 self.table.shared.park(rt, TICKET, u32::MAX);
             }
         }
         unreachable!()
     }
 
-    // Between two looks at the number served. After some looks it sleeps for as long as this number is served.
+    // Pauses between two looks at the number served. After some looks it sleeps for as long as this number is served.
     fn rest<R: Wait>(&self, rt: &R, served: u64, looks: u64) {
         if looks < LOOKS {
             spin_loop();
@@ -164,7 +164,7 @@ impl<V: Logged> Turns<V> {
         unreachable!()
     }
 
-    /// Waits for a turn, and lends the value.
+    /// Waits for a turn, and returns the value for it.
     pub fn take<R: Wait>(&self, rt: &R, pass: &mut Pass<V>) -> Held<V>
         requires own { pass.old.table_id ≡ lock_id self.now }
         requires free { IsFree pass.old }
@@ -184,7 +184,7 @@ impl<V: Logged> Turns<V> {
         Held { value }
     }
 
-    /// Gives the value back, with at most one entry more.
+    /// Gives the value back, with at most one entry more than it had.
     pub fn give(&self, pass: &mut Pass<V>, held: Held<V>)
         requires own { pass.old.table_id ≡ lock_id self.now }
         requires holder { IsHolder pass.old }
@@ -205,7 +205,7 @@ impl<V: Logged> Turns<V> {
         let None = lent else { unreachable!() };
         self.table.shared.store::<Publish>(pass, LENGTH, count);
         let number = self.table.shared.fetch_add::<Advance>(pass, SERVED, 1);
-        // Who draws a number after this look finds it served.
+        // A caller that draws a number after this look finds it served.
         if self.table.shared.peek(TICKET) != number.wrapping_add(1) {
             self.table.shared.wake_all(SERVED);
         }
@@ -226,7 +226,7 @@ impl<V: Logged> Turns<V> {
         unreachable!()
     }
 
-    /// Waits for a last turn, and answers the value.
+    /// Waits for a last turn, and returns the value.
     pub fn close<R: Wait>(self, rt: &R, mut pass: Pass<V>) -> V
         requires own { pass.table_id ≡ lock_id self }
         requires free { IsFree pass }
@@ -249,7 +249,8 @@ impl<V: Logged> Turns<V> {
         value
     }
 
-    /// Whether the number of the context is done, as far as its fence word says. True means that it is.
+    /// Returns whether the job `num` of the context `ctx` is done, as far as the fence word of the context says. True means
+    /// that it is.
     pub fn peek_fence(&self, pass: &mut Pass<V>, ctx: u32, num: u64) -> bool
         requires own { pass.old.table_id ≡ lock_id self.now }
         requires inside { ctx < context_count self.now }
@@ -259,7 +260,7 @@ impl<V: Logged> Turns<V> {
         self.table.shared.load::<Peek>(pass, ctx as usize + 3) >= num
     }
 
-    /// The fence word of the context becomes the greater of both.
+    /// Raises the fence word of the context `ctx` to `num`, unless it is greater already.
     pub fn raise_fence(&self, pass: &mut Pass<V>, ctx: u32, num: u64)
         requires own { pass.old.table_id ≡ lock_id self.now }
         requires inside { ctx < context_count self.now }

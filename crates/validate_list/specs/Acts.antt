@@ -18,12 +18,12 @@ use Rattle.laws.specs.lemma_bytes_told.Told.{IsThere}
 use Rattle.room_state.specs.room_turns.Turns.{Kept, state_behind, world_behind}
 use Rattle.room_state.specs.room_turns.Acting.{frees, swaps}
 
--- it shows bytes of a buffer
+-- the command shows bytes of a buffer
 abbrev pub is_read : Command → Bool
 is_read (command.Read b off len) = true
 is_read _ = false
 
--- its step, with the bytes that a read shows
+-- the step of a command itself, with the bytes that a read shows
 abbrev pub act_of : Kept → Command → Result Kind Need
 act_of k (command.Read b off len) =
     unless_waiting

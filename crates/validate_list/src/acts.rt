@@ -22,7 +22,7 @@ use room_state::room_turns::{Rooms, Step};
 use std::alloc::Global;
 use ttm_base::{BufId, Deny, JobId, Need, NoMemory, Usage};
 
-/// An answer that shows nothing.
+/// Returns an answer that shows nothing.
 fn plain() -> Kind
     ensures { result ≡ kind.Result shown.Plain }
 {
@@ -31,7 +31,7 @@ fn plain() -> Kind
     }
 }
 
-/// The entry, unless a job is waited for.
+/// Returns the entry of `kind`, unless `job` must be waited for first.
 fn unless_waiting(job: Option<JobId>, kind: Kind) -> Next
     ensures { result ≡ steps.unless_waiting job kind }
 {
@@ -41,7 +41,7 @@ fn unless_waiting(job: Option<JobId>, kind: Kind) -> Next
     }
 }
 
-/// The bytes of a buffer are shown once no job changes them.
+/// Returns the answer that shows `len` bytes of buffer `b` from `off` on, or the job that changes them, to wait for first.
 fn next_of_read(
     alloc: Global,
     rooms: &Rooms,
@@ -64,7 +64,7 @@ fn next_of_read(
     Ok(Ok(Kind::Result { shown }))
 }
 
-/// Where a buffer stands is shown.
+/// Returns the answer that shows where buffer `b` stands.
 fn kind_of_find(rooms: &Rooms, b: BufId) -> Result<Kind, NoMemory>
     requires { IsThere (state_behind rooms.now) b }
     ensures { IfOk result (λ shows. act_of rooms.now (command.Find b) ≡ Ok shows) }
@@ -75,7 +75,8 @@ fn kind_of_find(rooms: &Rooms, b: BufId) -> Result<Kind, NoMemory>
     Ok(Kind::Result { shown })
 }
 
-/// Nothing more can be swapped out: all of the buffer is, or no slot is free.
+/// Returns the answer of a swapout that can swap out nothing more: a plain one where all of the buffer is swapped out, or a refusal where no slot is
+/// free.
 fn kind_of_swapped(rooms: &Rooms, b: BufId) -> Kind
     requires live { IsThere (state_behind rooms.now) b }
     requires done { swaps rooms.now.script (state_behind rooms.now) (Some (command.SwapOut b)) ≡ false }
@@ -88,7 +89,7 @@ fn kind_of_swapped(rooms: &Rooms, b: BufId) -> Kind
     }
 }
 
-/// The command itself, once all is held, in place and filled.
+/// Returns what `command` does itself, once all its buffers are held, in place and filled.
 fn next_of_command(alloc: Global, rooms: &Rooms, command: &Command) -> Result<Next, NoMemory>
     requires { IsActing rooms.now command.now }
     ensures { IfOk result (λ next. next ≡ act_of rooms.now command.now) }
@@ -107,7 +108,7 @@ fn next_of_command(alloc: Global, rooms: &Rooms, command: &Command) -> Result<Ne
     }
 }
 
-/// The next step of a thread whose command itself is at work.
+/// Returns the next step of `thread`, whose command itself is at work.
 fn next_of_act(alloc: Global, rooms: &Rooms, thread: u32) -> Result<Next, NoMemory>
     requires act { task_of rooms.now.script (state_behind rooms.now) thread ≡ task.Act }
     requires no_free { free_due rooms.now.script (state_behind rooms.now) thread ≡ false }
@@ -121,7 +122,7 @@ fn next_of_act(alloc: Global, rooms: &Rooms, thread: u32) -> Result<Next, NoMemo
     next_of_command(alloc, rooms, command)
 }
 
-/// The next step of a thread that answers, refuses or does what its command is for.
+/// Returns the next step of `thread`, which answers, refuses or does what its command is for.
 fn next_of_task(alloc: Global, rooms: &Rooms, thread: u32) -> Result<Next, NoMemory>
     requires act { stage_of (task_of rooms.now.script (state_behind rooms.now) thread) ≡ stage.Act }
     requires no_free { free_due rooms.now.script (state_behind rooms.now) thread ≡ false }
@@ -136,8 +137,8 @@ fn next_of_task(alloc: Global, rooms: &Rooms, thread: u32) -> Result<Next, NoMem
     }
 }
 
-/// A command does what it is for, in the stage Act, once all its buffers are held, in place and filled; then it is answered. One that may not be
-/// asked of its buffer is refused. Neither a Free nor a SwapOut of a page is due: those are made by others.
+/// Makes the next entry of a command that does what it is for, in the stage Act, once all its buffers are held, in place and filled, and then its
+/// answer. A command that may not be asked of its buffer is refused. Neither a Free nor a SwapOut of a page is due: those are made by others.
 ///
 /// # Errors
 ///

@@ -9,7 +9,7 @@ use bo_table::Bo;
 use room_state::room_turns::Rooms;
 use ttm_base::{BufId, Stamp};
 
-/// A buffer is live.
+/// Returns whether buffer `b` is live.
 pub(crate) fn is_live(rooms: &Rooms, b: BufId) -> bool
     ensures { result ≡ state.is_live (state_behind rooms.now) b }
 {
@@ -21,7 +21,7 @@ pub(crate) fn is_live(rooms: &Rooms, b: BufId) -> bool
     }
 }
 
-/// Who holds a buffer.
+/// Returns the ticket that holds buffer `b`, or None where it has no holder.
 pub(crate) fn holder_of(rooms: &Rooms, b: BufId) -> Option<Stamp>
     ensures { result ≡ (state.reservation (state_behind rooms.now) b).holder }
 {
@@ -33,7 +33,7 @@ pub(crate) fn holder_of(rooms: &Rooms, b: BufId) -> Option<Stamp>
     }
 }
 
-/// A live buffer.
+/// Returns buffer `b`, which is live.
 pub(crate) fn lent(rooms: &Rooms, b: BufId) -> &Bo
     requires { IsThere (state_behind rooms.now) b }
     ensures { as_buffer result.now ≡ unfenced (state.buffer (state_behind rooms.now) b) }

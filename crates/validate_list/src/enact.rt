@@ -7,10 +7,10 @@ use journal_model::Kind;
 use room_state::room_turns::{Rooms, Step, make};
 use ttm_base::{Actor, Need, NoMemory};
 
-/// What a thread makes next, or needs first.
+/// The next entry of a thread, or what it needs first.
 pub(crate) type Next = Result<Kind, Need>;
 
-/// Makes the thread's next entry, or says what it needs.
+/// Makes the next entry of `thread`, or returns what it needs first.
 pub(crate) fn enact(rooms: &mut Rooms, thread: u32, next: Next) -> Result<Step, NoMemory>
     requires { entry_of rooms.old (actor.Thread thread) ≡ entry_by thread next }
     ensures step { IfOk result (λ step. step ≡ step_of (entry_of rooms.old (actor.Thread thread))) }

@@ -17,8 +17,8 @@ use room_state::room_turns::{Rooms, Step};
 use ttm_base::{BufId, Deny, Need, NoMemory, Stamp};
 use ww_ticket::{Decision, decide};
 
-/// What a thread with a ticket does at a live buffer that it wants to hold (wait-die): it reserves one that nobody holds. It backs off from an
-/// older holder if it holds something itself, and waits for any other.
+/// Returns what a thread with the ticket `mine` does at the live buffer `b`, which it wants to hold (wait-die): it reserves one that has no holder,
+/// backs off from an older holder if it holds something itself, and waits for any other.
 fn wait_die(course: &Course, mine: Stamp, b: BufId, holder: Option<Stamp>) -> Next
     requires ticket { course.now.stamp ≡ Some mine }
     requires other { holder ≢ Some mine }
@@ -31,7 +31,7 @@ fn wait_die(course: &Course, mine: Stamp, b: BufId, holder: Option<Stamp>) -> Ne
     }
 }
 
-/// The step of a thread at a buffer that it wants to hold.
+/// Returns the step of `thread` at buffer `b`, which it wants to hold.
 fn next_of_lock(rooms: &Rooms, thread: u32, b: BufId) -> Next
     requires { task_of rooms.now.script (state_behind rooms.now) thread ≡ task.Lock b }
     ensures { result ≡ words.step_of_lock (state_behind rooms.now) (course (state_behind rooms.now) thread) b }
@@ -49,8 +49,8 @@ fn next_of_lock(rooms: &Rooms, thread: u32, b: BufId) -> Next
     wait_die(course, mine, b, holder_of(rooms, b))
 }
 
-/// A thread reserves the next buffer that its command names, in the stage Lock, backs off from an older holder, or waits for the holder
-/// (`wait_die`). Where there is no such buffer the command is refused.
+/// Reserves the next buffer that the command of `thread` names, in the stage Lock, backs off from an older holder, or waits for the holder
+/// (`wait_die`). Where that buffer isn't live the command is refused.
 ///
 /// # Errors
 ///

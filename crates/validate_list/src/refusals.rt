@@ -10,7 +10,7 @@ use journal_model::{Kind, Task};
 use room_state::room_turns::{Rooms, Step, make};
 use ttm_base::{Actor, NoMemory};
 
-/// A command is refused, in the stage Fail, whose search found no pages. Its buffer has no frame to give back and no target.
+/// Refuses a command, in the stage Fail, whose search found no pages. Its buffer has no frame to give back and no target.
 ///
 /// # Errors
 ///

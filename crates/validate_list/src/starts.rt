@@ -12,7 +12,7 @@ use journal_model::{Command, Kind};
 use room_state::room_turns::{Rooms, Step, make};
 use ttm_base::{Actor, Deny, NoMemory};
 
-/// The first step of a command.
+/// Returns the first step of `command`.
 fn kind_of_start(rooms: &Rooms, command: &Command) -> Kind
     ensures { words.step_of_start (state_behind rooms.now) command.now ≡ Ok result }
 {
@@ -26,7 +26,7 @@ fn kind_of_start(rooms: &Rooms, command: &Command) -> Kind
     }
 }
 
-/// A command begins, in the stage Start: with a ticket, or `new` and `touch` with all that they do. `new` of a live buffer is refused.
+/// Begins a command, in the stage Start: with a ticket, or `new` and `touch` with all that they do. A `new` of a live buffer is refused.
 ///
 /// # Errors
 ///

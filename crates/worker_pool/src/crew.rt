@@ -8,7 +8,7 @@ use std::sync::Wait;
 use ttm_base::{Actor, NoMemory, Stepper};
 use turn_lock::{Pass, Turns};
 
-/// Works, and gives the pass back.
+/// Steps the actors as the worker `worker`, and returns the answer and the pass.
 pub fn worked<R: Wait, V: Stepper, G: Gate>(
     rt: &R,
     turns: &Turns<V>,

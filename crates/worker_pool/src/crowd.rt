@@ -13,7 +13,7 @@ use std::thread::{Threads, join};
 use ttm_base::{Actor, Stepper};
 use turn_lock::{Pass, Turns};
 
-// Each job is a worker's number and its pass.
+// Runs the workers of the jobs, and returns what each of them gives back. Each job is the number of a worker and its pass.
 fn workers<R: Threads + Wait + Sync, V: Stepper + Send, G: Gate + Sync>(
     rt: &R,
     turns: &Turns<V>,
@@ -37,7 +37,7 @@ fn workers<R: Threads + Wait + Sync, V: Stepper + Send, G: Gate + Sync>(
     )
 }
 
-// Passes for the workers below `count`, from 1 on.
+// Returns passes for the workers with the numbers below `count`, from 1 on.
 fn jobs_below<V: Stepper>(
     alloc: Global,
     turns: &Turns<V>,
@@ -59,7 +59,7 @@ fn jobs_below<V: Stepper>(
     Ok(jobs)
 }
 
-// Joins the passes of all workers into the one.
+// Joins the passes of all workers into `pass`.
 fn joined_by<V: Stepper>(turns: &Turns<V>, pass: &mut Pass<V>, mut backs: Vec<Back<V>, Global>)
     requires own { pass.old.table_id ≡ lock_id turns.now }
     requires free { IsFree pass.old }
@@ -72,7 +72,7 @@ fn joined_by<V: Stepper>(turns: &Turns<V>, pass: &mut Pass<V>, mut backs: Vec<Ba
     }
 }
 
-// The workers of the jobs, and beside them the last worker, which is the caller.
+// Runs the workers of the jobs, and beside them the last worker, which is the caller.
 fn side_by_side<R: Threads + Wait + Sync, V: Stepper + Send, G: Gate + Sync>(
     rt: &R,
     turns: &Turns<V>,
@@ -102,7 +102,8 @@ fn side_by_side<R: Threads + Wait + Sync, V: Stepper + Send, G: Gate + Sync>(
     )
 }
 
-/// One worker per actor, the caller as the last. Its answer, and the pass with all passes joined into it.
+/// Runs one worker for each actor, with the caller as the last. Returns the answer, and the pass with all passes joined into
+/// it.
 pub fn work_all<R: Threads + Wait + Sync, V: Stepper + Send, G: Gate + Sync>(
     rt: &R,
     alloc: Global,

@@ -1,4 +1,4 @@
-//! Workers that step the actors of a value after a turn lock.
+//! Workers that step the actors of a value, each in its turns of a turn lock.
 #![tactic(auto)]
 
 ghost use Rattle.std.specs.Prelude.{◌≡◌, ℕ, ◌<◌, ◌≤◌, Some, IfOk, IfSome, OnOk, length, true};
@@ -16,7 +16,7 @@ use std::sync::Wait;
 use ttm_base::{Actor, JobId, Need, NoMemory, Stepper, Turn};
 use turn_lock::{Batch, Held, Pass, Turns};
 
-/// Called by a worker before each of its turns, while it holds none.
+/// A gate that a worker calls before each of its turns, while it holds none.
 pub trait Gate {
     fn before_turn(&self, worker: u32, turn: u64);
 }
@@ -30,13 +30,14 @@ impl Gate for IdleGate {
 enum Offered {
     /// The worker's own actor made the entry.
     Own,
-    /// Who made it, and what blocked the worker's own actor.
+    /// This actor made the entry, and this job blocked the worker's own actor, if a job did.
     Other(Actor, Option<JobId>),
     Idle(Option<JobId>),
     Over,
 }
 
-// What a turn costs of the budget of the worker's batch. An entry of another actor costs more, since that actor's own worker makes it sooner.
+// Returns the cost of a turn to the budget of the worker's batch. An entry of another actor costs more, since that actor's
+// own worker makes it sooner.
 fn cost_of(offered: &Result<Offered, NoMemory>) -> u64
     ensures { result ≡ cost_of offered.now }
 {
@@ -54,7 +55,8 @@ fn fence_of(need: Need) -> Option<JobId> {
     }
 }
 
-// The turn goes to the own actor, unless it is left out, and then to the others in order, until one makes an entry.
+// Offers the turn to the worker's own actor, unless it is left out, and then to the others in order, until one makes an
+// entry.
 fn offer<V: Stepper>(
     value: &mut V,
     actors: &[Actor],
@@ -86,7 +88,8 @@ fn offer<V: Stepper>(
     Ok(Offered::Idle(need))
 }
 
-// Where the turn's entry was an engine's, the number that is done in its context.
+// Returns the context of the engine that made the turn's entry, with the number that is done there, or None where no engine
+// made it.
 fn reached<V: Stepper>(
     value: &V,
     offered: &Offered,
@@ -119,7 +122,7 @@ fn raise_to<V: Stepper>(turns: &Turns<V>, pass: &mut Pass<V>, raise: Option<(u32
     }
 }
 
-// One turn, from its take to its give, and the fence word that it raises.
+// Takes one turn, gives the value back, and raises the fence word of the engine that made the entry.
 fn turn<R: Wait, V: Stepper>(
     rt: &R,
     turns: &Turns<V>,
@@ -146,7 +149,7 @@ fn turn<R: Wait, V: Stepper>(
     offered
 }
 
-// The job, where its fence word has not come up to it.
+// Returns the job, unless its fence word has reached it.
 fn still_blocked<V: Stepper>(
     turns: &Turns<V>,
     pass: &mut Pass<V>,

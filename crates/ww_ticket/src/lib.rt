@@ -1,5 +1,5 @@
-//! Tickets by which threads order their reservations, and what a thread does at a buffer that it wants: wait-die, as of
-//! `ww_mutex` and `dma_resv`.
+//! Tickets by which threads order their reservations, and the decision of a thread at a buffer that it wants: wait-die, as
+//! `ww_mutex` and `dma_resv` do.
 #![tactic(auto)]
 
 ghost use Rattle.std.specs.Prelude.{◌≡◌, ◌≢◌, ◌+◌, ◌^◌, ◌<◌, ◌≤◌, ◌↔◌, ◌⊎◌, Some, None, IsTrue, IsNone, false};
@@ -24,14 +24,14 @@ impl std::marker::Model for Tickets {
 }
 
 impl Tickets {
-    /// A counter from which nothing was drawn.
+    /// Returns a counter from which no ticket was drawn.
     pub fn new() -> Tickets
         ensures { result ≡ 0 }
     {
         Tickets { drawn: 0 }
     }
 
-    /// The next ticket. The first one is 1.
+    /// Draws the next ticket. The first one is 1.
     pub fn draw(&mut self) -> Stamp
         requires { self.old < 2 ^ 63 }
         ensures stamp { result.0 ≡ self.old + 1 }
@@ -41,7 +41,7 @@ impl Tickets {
         Stamp(self.drawn)
     }
 
-    /// The ticket that `draw` would give.
+    /// Returns the ticket that `draw` would give.
     pub fn next(&self) -> Stamp
         ensures { result.0 ≡ self.now + 1 }
     {
@@ -49,19 +49,20 @@ impl Tickets {
     }
 }
 
-/// What a thread does at a buffer that it wants to reserve.
+/// The decision of a thread at a buffer that it wants to reserve.
 #[derive(Clone, Copy, PartialEq, Eq)]
 pub enum Decision {
-    /// Nobody holds the buffer.
+    /// Take the reservation: no ticket holds it.
     Take,
-    /// Wait until the holder lets go.
+    /// Wait until this ticket, the holder, releases the reservation.
     Wait(Stamp),
-    /// Let all go, and wait until the holder lets go.
+    /// Release all reservations, and wait until this ticket, the holder, releases the reservation.
     Backoff(Stamp),
 }
 
-/// The younger one, whose stamp is greater, backs off from an older holder if it holds anything; any other waits. So an
-/// older thread never waits for a younger one that waits for it.
+/// Decides what the thread with the ticket `mine` does at a buffer: a younger thread, whose stamp is greater, backs off from
+/// an older holder if it holds any reservation; any other waits. So an older thread never waits for a younger one that waits
+/// for it.
 pub fn decide(mine: Stamp, holds: bool, holder: Option<Stamp>) -> Decision
     requires { holder ≢ Some mine }
     ensures take { (result ≡ decision.Take) ↔ (holder ≡ None) }

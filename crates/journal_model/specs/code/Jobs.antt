@@ -13,7 +13,7 @@ pub record ArePending (jobs pending : List Job) : Type 0 where
   pub joined : jobs ≡ closed ++ pending
   pub done : IsTrue (list_all (λ j. j.finished) closed)
 
--- the job is another, or has run so few packets that one more can be counted in 32 bits
+-- the job is another, or the number of its packets that have run is still one of 32 bits after one more
 abbrev pub has_packets_left : JobId → Job → Bool
 has_packets_left i j = not (same_job i j.id) || nat_lt (j.ran + 1) (2 ^ 32)
 
@@ -22,7 +22,7 @@ pub record AreClosed (closed pending : List Job) : Type 0 where
   pub done : IsTrue (list_all (λ j. j.finished) closed)
   pub apart : IsTrue (list_all (λ j. not (list_any (λ k. same_job j.id k.id) pending)) closed)
 
--- so many jobs are closed
+-- the first `count` jobs are closed
 pub record IsSplit (jobs : List Job) (count : ℕ) : Type 0 where
   pub within : count ≤ length jobs
   pub parts : AreClosed (take count jobs) (drop count jobs)

@@ -1,7 +1,6 @@
 -- A job with addresses, cut at the borders of mappings into a job by name, and what it means byte by byte.
 use Rattle.std.specs.Prelude.{ℕ, zero, suc, ◌+◌, ◌-◌, ◌*◌, ◌/◌, ◌%◌, min, max, Bool, nat_lt, List, [], ◌∷◌, ◌++◌, Option, Some, None, bit_xor, filter, find, map, fold, option_map}
-use Rattle.ttm_base.specs.declared.BufId.{BufId}
-use Rattle.ttm_base.specs.declared.Op.{Op}
+use Rattle.journal_model.specs.Types.{BufId, Op}
 use Rattle.ttm_base.specs.declared.Op.TheVariants as op
 use Rattle.journal_model.specs.declared.space.VOp.{VOp}
 use Rattle.journal_model.specs.declared.space.VOp.TheVariants as vop

@@ -1,13 +1,8 @@
 -- What a thread's mapping of a buffer knows (vm_area_struct, ttm_bo_vm_fault): entries that come by access and go when a page leaves.
 use Rattle.std.specs.Prelude.{ℕ, ◌+◌, ◌*◌, ◌/◌, Bool, false, List, [], ◌∷◌, ◌++◌, Option, Some, None, ◌==◌, ◌&&◌, not, nat_lt, nat_le, filter, find, map, fold, length, option_map, option_and_then, slice_get, is_none, if◌then◌else◌}
-use Rattle.ttm_base.specs.declared.BufId.{BufId}
-use Rattle.journal_model.specs.declared.script.Script.{Script}
-use Rattle.journal_model.specs.declared.script.Command.{Command}
+use Rattle.journal_model.specs.Types.{BufId, Command, Kind, Mark, MarkKind, Script}
 use Rattle.journal_model.specs.declared.script.Command.TheVariants as command
-use Rattle.journal_model.specs.declared.script.Mark.{Mark}
-use Rattle.journal_model.specs.declared.script.MarkKind.{MarkKind}
 use Rattle.journal_model.specs.declared.script.MarkKind.TheVariants as mark
-use Rattle.journal_model.specs.declared.entry.Kind.{Kind}
 use Rattle.journal_model.specs.declared.entry.Kind.TheVariants as kind
 use Rattle.ttm_base.specs.ListWords.{count_from}
 use Rattle.ttm_base.specs.Pages.{Page}
@@ -18,7 +13,7 @@ use Rattle.journal_model.specs.rules.Legal.{Made}
 use Rattle.journal_model.specs.statements.Complete.{is_by_thread, answers_of}
 use Rattle.journal_model.specs.marks.Marks.{is_mapped_at}
 
--- a mapping of a buffer by a thread: it stands before command number from, and ends before command number upto, counted from 0
+-- a mapping of a buffer by a thread. It begins before command number `from` and ends before command number `upto`, counted from 0, or never
 pub record Mapping : Type 0 where
   pub thread : ℕ
   pub b : BufId
@@ -29,11 +24,11 @@ pub record Mapping : Type 0 where
 abbrev pub unmaps : ℕ → BufId → Mark → Bool
 unmaps thread b m = (m.thread == thread) && elim m.kind [ mark.Unmap c ↦ same_buffer b c | _ ↦ false ]
 
--- where the next unmap of the buffer stands
+-- before which command the next unmap of the buffer stands
 abbrev pub end_of : ℕ → BufId → List Mark → Option ℕ
 end_of thread b marks = option_map (λ m. m.after) (find (unmaps thread b) marks)
 
--- the mapping of a map mark, by the marks behind it
+-- the mapping of a map mark, by the marks after it
 abbrev pub mapping_of : Mark → List Mark → MarkKind → List Mapping
 mapping_of m behind (mark.Map b) = record { thread = m.thread; b = b; from = m.after; upto = end_of m.thread b behind } ∷ []
 mapping_of m behind _ = []
@@ -47,7 +42,7 @@ mappings_in (m ∷ marks) = mapping_of m marks m.kind ++ mappings_in marks
 abbrev pub mappings : Script → List Mapping
 mappings script = mappings_in script.marks
 
--- the unmap stands before the command that comes next; without one more command it has ended where it has an unmap at all
+-- the mapping has ended once this many commands are answered: its unmap stands before the command that comes next, or before an earlier one
 abbrev pub has_ended : Mapping → ℕ → Bool
 has_ended m answered = elim m.upto [ None ↦ false | Some n ↦ nat_le n answered ]
 
@@ -89,7 +84,8 @@ abbrev pub access_at : Script → ℕ → Made → Option Access
 access_at script thread m =
     if is_by_thread thread m.entry.who then peek_or_poke script thread (answered_before m thread) else None
 
--- a result whose access goes through the mapping and has a byte of the page gives the page's entry the place that the page has
+-- the entry of page `i` after a result: where its access goes through the mapping and has a byte of the page, the place where the page is; else
+-- the entry from before, `old`
 abbrev pub seen : Script → Mapping → ℕ → Made → Option Page → Option Page
 seen script m i e old =
     elim (access_at script m.thread e) [
@@ -97,11 +93,12 @@ seen script m i e old =
       | Some a ↦ if is_through m m.thread (answered_before e m.thread) a && meets_page a i then Some (page_at (buffer e.before m.b) i) else old
     ]
 
--- gone where the entry is of this buffer
+-- no entry, where the mapping is of the buffer `b`; else the entry from before, `old`
 abbrev pub unless_of : Mapping → BufId → Option Page → Option Page
 unless_of m b old = if same_buffer m.b b then None else old
 
--- the entry of page i after an entry of the journal
+-- the entry of page `i` after an entry of the journal: a result may bring it, and it goes when its buffer is freed, moved, bound or unbound, or
+-- when its page goes to swap
 abbrev pub entry_after : Script → Mapping → ℕ → Made → Kind → Option Page → Option Page
 entry_after script m i e (kind.Result r) old = seen script m i e old
 entry_after script m i e (kind.Free b g) old = unless_of m b old
@@ -115,7 +112,7 @@ entry_after script m i e _ old = old
 abbrev pub count_answers : ℕ → List Made → ℕ
 count_answers thread made = answers_of thread (map (λ e. e.entry) made)
 
--- the entry that a mapping has for page i after a journal
+-- the entry that a mapping has for page `i` after a journal; none after its end
 abbrev pub mapped_entry : Script → List Made → Mapping → ℕ → Option Page
 mapped_entry script made m i =
     if has_ended m (count_answers m.thread made)
@@ -124,15 +121,16 @@ mapped_entry script made m i =
 
 -- ---- faults
 
--- the mapping through which a thread's command goes
+-- the first mapping through which an access goes, by command number `n` of the thread
 abbrev pub mapping_at : Script → ℕ → ℕ → Access → Option Mapping
 mapping_at script thread n a = find (λ m. is_through m thread n a) (mappings script)
 
--- the pages of which the range has a byte, in rising order
+-- the pages of which the range has a byte, in rising order: none stands before the page of its first byte, nor more than one page after its
+-- length in pages
 abbrev pub pages_of_access : Access → List ℕ
 pages_of_access a = filter (meets_page a) (count_from 1 (a.len / 4096 + 2) (a.off / 4096))
 
--- the pages of an access that have no entry just before its result
+-- the pages of an access that have no entry just before its result. `before` is the journal up to there; without a mapping each page counts
 abbrev pub faulted : Script → List Made → ℕ → ℕ → Access → List ℕ
 faulted script before thread n a =
     elim (mapping_at script thread n a) [

@@ -1,21 +1,12 @@
 -- The text of an entry.
 use Rattle.std.specs.Prelude.{ℕ, List, [], ◌∷◌, ◌++◌, map, decimal, codes}
-use Rattle.ttm_base.specs.declared.Deny.{Deny}
+use Rattle.journal_model.specs.Types.{Cause, CauseRow, Deny, DryWhy, Entry, Kind, Left, Script, Shown, Why}
 use Rattle.ttm_base.specs.declared.Deny.TheVariants as deny
-use Rattle.journal_model.specs.declared.script.Script.{Script}
-use Rattle.journal_model.specs.declared.entry.Entry.{Entry}
-use Rattle.journal_model.specs.declared.entry.Kind.{Kind}
 use Rattle.journal_model.specs.declared.entry.Kind.TheVariants as kind
-use Rattle.journal_model.specs.declared.entry.Shown.{Shown}
 use Rattle.journal_model.specs.declared.entry.Shown.TheVariants as shown
-use Rattle.journal_model.specs.declared.entry.Why.{Why}
 use Rattle.journal_model.specs.declared.entry.Why.TheVariants as why
-use Rattle.journal_model.specs.declared.entry.Left.{Left}
 use Rattle.journal_model.specs.declared.entry.Left.TheVariants as left
-use Rattle.journal_model.specs.declared.entry.DryWhy.{DryWhy}
 use Rattle.journal_model.specs.declared.entry.DryWhy.TheVariants as dry
-use Rattle.journal_model.specs.declared.entry.CauseRow.{CauseRow}
-use Rattle.journal_model.specs.declared.entry.Cause.{Cause}
 use Rattle.journal_model.specs.declared.entry.Cause.TheVariants as cause
 use Rattle.journal_model.specs.scripts.Words.{Text, listed, line, hex, mem_word, spans_word, name_of, actor_word}
 

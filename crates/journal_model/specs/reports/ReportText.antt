@@ -2,13 +2,10 @@
 use Rattle.std.specs.Prelude.{ℕ, true, false, ◌+◌, List, [], ◌∷◌, ◌++◌, Option, Some, None, filter_map, flat_map, length, option_to_list, decimal, codes, if◌then◌else◌}
 use Rattle.std.specs.List.{list_any, enumerate_from}
 use Rattle.ttm_base.specs.declared.Mem.TheVariants.{Tt, Vram}
-use Rattle.journal_model.specs.declared.script.Script.{Script}
+use Rattle.journal_model.specs.Types.{Core, Entry, Kind, Script}
 use Rattle.journal_model.specs.declared.space.VStep.{VStep}
 use Rattle.journal_model.specs.declared.space.VStep.TheVariants as vstep
-use Rattle.journal_model.specs.declared.entry.Entry.{Entry}
-use Rattle.journal_model.specs.declared.entry.Kind.{Kind}
 use Rattle.journal_model.specs.declared.entry.Kind.TheVariants as kind
-use Rattle.journal_model.specs.declared.state.Core.{Core}
 use Rattle.journal_model.specs.statements.Account.{Account, account_of, frame_account, slot_account}
 use Rattle.journal_model.specs.rules.Legal.{state_of, Made, made_of}
 use Rattle.journal_model.specs.statements.Complete.{thread_numbers, is_by_thread}

@@ -1,12 +1,8 @@
--- The verdict on a script and a report behind it: whether the report is that of a legal, complete journal of the script, and if not,
+-- The verdict on a script and a report after it: whether the report is that of a legal, complete journal of the script, and if not,
 -- the first entry that isn't as it should be, and the rule that it breaks.
 use Rattle.std.specs.Prelude.{◌≡◌, ℕ, ◌+◌, ◌<◌, ◌≤◌, Bool, true, false, List, [], ◌∷◌, ◌++◌, Result, Ok, Err, IsTrue, bytes_eq, codes, decimal, flat_map, length, if◌then◌else◌}
-use Rattle.ttm_base.specs.declared.Actor.{Actor}
+use Rattle.journal_model.specs.Types.{Actor, Entry, Kind, Need, Script}
 use Rattle.ttm_base.specs.declared.Actor.TheVariants as actor
-use Rattle.ttm_base.specs.declared.Need.{Need}
-use Rattle.journal_model.specs.declared.script.Script.{Script}
-use Rattle.journal_model.specs.declared.entry.Entry.{Entry}
-use Rattle.journal_model.specs.declared.entry.Kind.{Kind}
 use Rattle.journal_model.specs.declared.entry.Kind.TheVariants as kind
 use Rattle.journal_model.specs.declared.entry.Shown.TheVariants as shown
 use Rattle.journal_model.specs.scripts.Words.{Text, line}
@@ -31,7 +27,7 @@ abbrev pub script_lines : List Text → List Text
 script_lines [] = []
 script_lines (text ∷ texts) = if ends_script text then text ∷ [] else text ∷ script_lines texts
 
--- the lines behind it
+-- the lines after it
 abbrev pub report_lines : List Text → List Text
 report_lines [] = []
 report_lines (text ∷ texts) = if ends_script text then texts else report_lines texts
@@ -40,7 +36,7 @@ report_lines (text ∷ texts) = if ends_script text then texts else report_lines
 abbrev pub script_part : Text → Text
 script_part bytes = flat_map (λ text. text) (script_lines (lines_of bytes))
 
--- the bytes behind it
+-- the bytes after it
 abbrev pub report_part : Text → Text
 report_part bytes = flat_map (λ text. text) (report_lines (lines_of bytes))
 
@@ -88,12 +84,12 @@ IsStep script w e = unshown_step (next script w.state e.who) ≡ Ok (unshown e.k
 
 -- ---- how far a report is right
 
--- the report's first two lines tell the script's version and a count of entries; these texts stand behind them
+-- the report's first two lines tell the script's version and a count of entries; these texts come after them
 pub record HasHead (script : Script) (text : Text) (count : ℕ) (texts : List Text) : Type 0 where
   pub lines : lines_of text ≡ report_head script ∷ line (codes "journal" ∷ decimal count ∷ []) ∷ texts
   pub fits : IsTrue (is_u64 count)
 
--- the first entries of those that it counts are a legal journal; these texts stand behind them
+-- the first entries of those that it counts are a legal journal; these texts come after them
 pub record IsRightTo (script : Script) (text : Text) (count : ℕ) (journal : List Entry) (texts : List Text) : Type 0 where
   pub right : List Text
   pub head : HasHead script text count (right ++ texts)
@@ -120,7 +116,7 @@ pub record IsAccepted (script : Script) (text : Text) : Type 0 where
   pub says : text ≡ report script journal
 
 -- The first entry that isn't as it should be, counted from 1, and the rule that it breaks. Entry 0 stands for the first two lines, the
--- one behind the last for what follows the journal.
+-- one after the last for what follows the journal. `VerdictOf.verdict_of` says the same as a function.
 pub data IsRejected (script : Script) (text : Text) : ℕ → ℕ → Type 0 where
   -- the first two lines aren't those of a report of the script
   no_head : ((count : ℕ) (texts : List Text) → HasHead script text count texts → ⊥) → IsRejected script text 0 1

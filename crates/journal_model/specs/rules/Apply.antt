@@ -1,12 +1,8 @@
 -- The state after an entry. All that the row of its kind doesn't name stays as it was.
 use Rattle.std.specs.Prelude.{ℕ}
-use Rattle.ttm_base.specs.declared.Actor.{Actor}
+use Rattle.journal_model.specs.Types.{Actor, Entry, Kind, Script, State}
 use Rattle.ttm_base.specs.declared.Actor.TheVariants as actor
-use Rattle.journal_model.specs.declared.script.Script.{Script}
-use Rattle.journal_model.specs.declared.entry.Kind.{Kind}
 use Rattle.journal_model.specs.declared.entry.Kind.TheVariants as kind
-use Rattle.journal_model.specs.declared.entry.Entry.{Entry}
-use Rattle.journal_model.specs.declared.state.State.{State}
 use Rattle.journal_model.specs.rules.ApplyCommands.{after_ticket, after_reserve, after_backoff, after_new, after_free, after_bulk, after_result, after_refusal}
 use Rattle.journal_model.specs.rules.ApplyPages.{after_take, after_untake, after_populate, after_swap_in, after_swap_out, after_depopulate, after_bind, after_unbind}
 use Rattle.journal_model.specs.rules.ApplyMoves.{after_move}

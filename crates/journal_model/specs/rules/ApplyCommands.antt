@@ -1,17 +1,8 @@
 -- The state after entries that begin and end commands: tickets, reservations, buffers made and freed, bulk moves, answers.
 use Rattle.std.specs.Prelude.{ℕ, ◌+◌, ◌-◌, true, List, [], ◌∷◌, ◌++◌, Option, Some, None, ◌==◌, filter, map, fold, slice_set, if◌then◌else◌}
 use Rattle.ttm_base.specs.declared.Mem.TheVariants.{Tt, Vram}
-use Rattle.ttm_base.specs.declared.BufId.{BufId}
-use Rattle.ttm_base.specs.declared.Stamp.{Stamp}
-use Rattle.journal_model.specs.declared.script.Script.{Script}
-use Rattle.journal_model.specs.declared.state.Course.{Course}
-use Rattle.journal_model.specs.declared.script.Command.{Command}
+use Rattle.journal_model.specs.Types.{BufId, Buffer, Command, Core, Course, Ghost, Reservation, Script, Stamp, State}
 use Rattle.journal_model.specs.declared.script.Command.TheVariants as command
-use Rattle.journal_model.specs.declared.state.State.{State}
-use Rattle.journal_model.specs.declared.state.Core.{Core}
-use Rattle.journal_model.specs.declared.state.Buffer.{Buffer}
-use Rattle.journal_model.specs.declared.state.Reservation.{Reservation}
-use Rattle.journal_model.specs.declared.state.Ghost.{Ghost}
 use Rattle.journal_model.specs.rules.State.{new_buffer, new_course, no_reservation, reservation_changed, buffer, course, has_buffer, without_buffer, with_course, with_buffers}
 use Rattle.journal_model.specs.rules.Commands.{decl, named, command_at_work}
 use Rattle.journal_model.specs.rules.Places.{frames_of}

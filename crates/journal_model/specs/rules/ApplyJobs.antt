@@ -1,15 +1,7 @@
 -- The state after entries on jobs: armed with packets at the buffers' present places, run, done; and ghosts reaped.
 use Rattle.std.specs.Prelude.{ℕ, ◌+◌, true, List, [], Option, Some, ◌==◌, not, filter, map, fold, slice_set, if◌then◌else◌, flat_map}
-use Rattle.ttm_base.specs.declared.BufId.{BufId}
-use Rattle.ttm_base.specs.declared.JobId.{JobId}
-use Rattle.ttm_base.specs.declared.Op.{Op}
-use Rattle.journal_model.specs.declared.script.Script.{Script}
-use Rattle.journal_model.specs.declared.script.Command.{Command}
+use Rattle.journal_model.specs.Types.{BufId, Buffer, Command, Core, Job, JobId, Op, Script, State}
 use Rattle.journal_model.specs.declared.script.Command.TheVariants as command
-use Rattle.journal_model.specs.declared.state.State.{State}
-use Rattle.journal_model.specs.declared.state.Core.{Core}
-use Rattle.journal_model.specs.declared.state.Buffer.{Buffer}
-use Rattle.journal_model.specs.declared.state.Job.{Job}
 use Rattle.ttm_base.specs.Cutting.{packets_of}
 use Rattle.journal_model.specs.rules.State.{changed, buffer_in, course, with_course}
 use Rattle.journal_model.specs.rules.Commands.{command_at_work}
@@ -50,7 +42,7 @@ abbrev pub after_arm : Script → State → ℕ → ℕ → ℕ → State
 after_arm script s t engine n =
     let cmd = command_at_work script s t in after_submit s t (record { ctx = engine; num = n }) (ops_of cmd) (named_in cmd)
 
--- ---- packets, their end, and the ghosts behind them
+-- ---- packets, their end, and the ghosts after them
 
 -- the jobs after one was changed
 abbrev pub changed_job : (Job → Job) → JobId → List Job → List Job

@@ -1,23 +1,12 @@
 -- The state after a move: a job that copies each page, and what it leaves behind (ttm_bo_move_accel_cleanup).
 use Rattle.std.specs.Prelude.{ℕ, false, List, [], ◌∷◌, ◌++◌, Option, Some, None, map, length, slice_set}
-use Rattle.ttm_base.specs.declared.Mem.{Mem}
+use Rattle.journal_model.specs.Types.{BufId, Buffer, Core, Ghost, Job, JobId, Left, Loc, Mem, Packet, PagePlace, Script, State}
+use Rattle.journal_model.specs.Limits.{page_bytes}
 use Rattle.ttm_base.specs.declared.Mem.TheVariants.{System, Tt, Vram}
-use Rattle.ttm_base.specs.declared.BufId.{BufId}
-use Rattle.ttm_base.specs.declared.JobId.{JobId}
 use Rattle.ttm_base.specs.declared.Usage.TheVariants as usage
-use Rattle.ttm_base.specs.declared.Loc.{Loc}
 use Rattle.ttm_base.specs.declared.Loc.TheVariants as loc
-use Rattle.ttm_base.specs.declared.PagePlace.{PagePlace}
-use Rattle.ttm_base.specs.declared.Packet.{Packet}
 use Rattle.ttm_base.specs.declared.Packet.TheVariants as packet
-use Rattle.journal_model.specs.declared.script.Script.{Script}
-use Rattle.journal_model.specs.declared.entry.Left.{Left}
 use Rattle.journal_model.specs.declared.entry.Left.TheVariants as left
-use Rattle.journal_model.specs.declared.state.State.{State}
-use Rattle.journal_model.specs.declared.state.Core.{Core}
-use Rattle.journal_model.specs.declared.state.Buffer.{Buffer}
-use Rattle.journal_model.specs.declared.state.Job.{Job}
-use Rattle.journal_model.specs.declared.state.Ghost.{Ghost}
 use Rattle.ttm_base.specs.ListWords.{count_from}
 use Rattle.journal_model.specs.rules.State.{changed, buffer_in, with_target, target_spans}
 use Rattle.journal_model.specs.rules.Places.{frames_of, packet_place, name_in_spans}
@@ -32,7 +21,7 @@ with_job job waits packets jobs = jobs ++ record { id = job; waits = waits; pack
 
 -- one copy of each page, from its old to its new place
 abbrev pub copy_of_page : PagePlace → PagePlace → Packet
-copy_of_page to from = packet.Copy to 0 from 0 4096
+copy_of_page to from = packet.Copy to 0 from 0 page_bytes
 
 -- the job of a move
 abbrev pub move_packets : Buffer → Mem → List Packet
@@ -55,7 +44,7 @@ moved mem job x =
       table = table_left x.mem x.table;
     })
 
--- ---- what is left behind: a ghost, or pages that are free at once behind the move fence
+-- ---- what is left behind: a ghost, or pages that are free at once after the move fence
 
 -- the frames that a buffer leaves
 abbrev pub frames_left : Mem → Buffer → List ℕ

@@ -1,18 +1,9 @@
 -- The state after entries that give a buffer targets, frames and slots, and that carry it between SYSTEM and TT.
 use Rattle.std.specs.Prelude.{ℕ, false, List, [], ◌∷◌, ◌++◌, Option, Some, None, map, fold, slice_set, if◌then◌else◌}
-use Rattle.ttm_base.specs.declared.Mem.{Mem}
+use Rattle.journal_model.specs.Types.{BufId, Buffer, Course, JobId, Loc, Mem, Script, Span, State, Usage}
 use Rattle.ttm_base.specs.declared.Mem.TheVariants.{System, Tt}
-use Rattle.ttm_base.specs.declared.Span.{Span}
-use Rattle.ttm_base.specs.declared.BufId.{BufId}
-use Rattle.ttm_base.specs.declared.JobId.{JobId}
-use Rattle.ttm_base.specs.declared.Usage.{Usage}
 use Rattle.ttm_base.specs.declared.Usage.TheVariants as usage
-use Rattle.ttm_base.specs.declared.Loc.{Loc}
 use Rattle.ttm_base.specs.declared.Loc.TheVariants as loc
-use Rattle.journal_model.specs.declared.script.Script.{Script}
-use Rattle.journal_model.specs.declared.state.Course.{Course}
-use Rattle.journal_model.specs.declared.state.State.{State}
-use Rattle.journal_model.specs.declared.state.Buffer.{Buffer}
 use Rattle.journal_model.specs.rules.State.{changed, course, with_course, with_buffers, with_target, target_spans}
 use Rattle.journal_model.specs.rules.Waits.{jobs_before_target}
 use Rattle.journal_model.specs.rules.Lists.{touched}
@@ -36,7 +27,7 @@ with_spans mem spans x = record x { targets = with_target mem spans x.targets }
 abbrev pub with_kernel_fences : List JobId → Buffer → Buffer
 with_kernel_fences jobs x = fold (λ y job. with_fence job usage.Kernel y) x jobs
 
--- a named buffer's search starts anew
+-- a named buffer's search starts again
 abbrev pub search_over : BufId → Course → Course
 search_over b c = if is_caught c b then c else record c { forced = false; dry = 0 }
 

@@ -1,17 +1,12 @@
 -- The pages that a place has for a buffer: by range as in drm_mm, or by blocks as in drm_buddy.
 use Rattle.std.specs.Prelude.{true, false, List, [], ◌∷◌, Option, Some, option_map, if◌then◌else◌}
-use Rattle.ttm_base.specs.declared.Mem.{Mem}
+use Rattle.journal_model.specs.Types.{BufId, Core, Mem, Place, Script, Span}
 use Rattle.ttm_base.specs.declared.Mem.TheVariants.{System, Tt, Vram}
-use Rattle.ttm_base.specs.declared.Span.{Span}
-use Rattle.ttm_base.specs.declared.BufId.{BufId}
-use Rattle.ttm_base.specs.declared.Place.{Place}
 use Rattle.ttm_base.specs.declared.Mode.TheVariants.{Best, High}
 use Rattle.ttm_base.specs.Reach.{reach}
 use Rattle.ttm_base.specs.Holes.{holes}
 use Rattle.ttm_base.specs.RangeChoice.{range_choice}
 use Rattle.ttm_base.specs.BuddyChoice.{buddy_choice}
-use Rattle.journal_model.specs.declared.script.Script.{Script}
-use Rattle.journal_model.specs.declared.state.Core.{Core}
 use Rattle.journal_model.specs.rules.Commands.{decl}
 use Rattle.journal_model.specs.rules.Holds.{size_of, is_free_page}
 

@@ -1,24 +1,16 @@
 -- What a command names and asks for.
 use Rattle.std.specs.Prelude.{ℕ, ◌==◌, ◌-◌, Bool, true, false, List, [], ◌∷◌, Option, None, flat_map, option_and_then, unwrap_or, slice_get, if◌then◌else◌}
-use Rattle.ttm_base.specs.declared.BufId.{BufId}
-use Rattle.ttm_base.specs.declared.Op.{Op}
+use Rattle.journal_model.specs.Types.{BufId, Command, Decl, FlaggedPlace, Mem, Op, Place, Script, State}
 use Rattle.ttm_base.specs.declared.Op.TheVariants as op
-use Rattle.ttm_base.specs.declared.Mem.{Mem}
 use Rattle.ttm_base.specs.declared.Mem.TheVariants.{System}
-use Rattle.ttm_base.specs.declared.Place.{Place}
-use Rattle.ttm_base.specs.declared.FlaggedPlace.{FlaggedPlace}
-use Rattle.journal_model.specs.declared.script.Script.{Script}
-use Rattle.journal_model.specs.declared.script.Decl.{Decl}
-use Rattle.journal_model.specs.declared.script.Command.{Command}
 use Rattle.journal_model.specs.declared.script.Command.TheVariants as command
-use Rattle.journal_model.specs.declared.state.State.{State}
 use Rattle.journal_model.specs.rules.State.{course_of, has_buffer, same_buffer}
 
--- in the place of a declaration that isn't there
+-- stands for a declaration that isn't there; no script names a buffer without one
 abbrev pub undeclared : Decl
 undeclared = record { name = []; pages = 0; prio = 0; group = None; align = 1; placement = record { list = [] } }
 
--- the declaration of a buffer
+-- the declaration of a buffer, by its number
 abbrev pub decl : Script → BufId → Decl
 decl script b = unwrap_or (slice_get script.buffers b.0) undeclared
 
@@ -26,7 +18,7 @@ decl script b = unwrap_or (slice_get script.buffers b.0) undeclared
 abbrev pub commands_of : Script → ℕ → List Command
 commands_of script thread = if thread == 0 then [] else unwrap_or (slice_get script.threads (thread - 1)) []
 
--- the command that a thread is at
+-- the command that a thread is at: the first that isn't answered, or none where all are
 abbrev pub command_at_work : Script → State → ℕ → Option Command
 command_at_work script s thread = option_and_then (λ c. slice_get (commands_of script thread) c.answered) (course_of s thread)
 
@@ -46,7 +38,7 @@ writes b (op.Copy dst doff src soff len) = same_buffer b dst
 writes b (op.Xor dst doff src soff len) = same_buffer b dst
 writes b (op.Probe src off len) = false
 
--- each buffer once, in order of first mention; seen are those before
+-- each buffer once, in the order of its first mention, without those in `seen`
 abbrev pub first_mentions : List BufId → List BufId → List BufId
 first_mentions seen [] = []
 first_mentions seen (b ∷ bs) = if has_buffer seen b then first_mentions seen bs else b ∷ first_mentions (b ∷ seen) bs

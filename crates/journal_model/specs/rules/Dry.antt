@@ -1,20 +1,11 @@
--- Which buffer is evicted for a place or gives its frames to swap, and why none can be.
+-- Which buffer is evicted for a place or gives its frames to swap, and why none can be. The rules of a forced place are those of `Search`.
 use Rattle.std.specs.Prelude.{Bool, true, false, List, [], ◌∷◌, ◌++◌, Option, Some, None, ◌==◌, ◌&&◌, ◌||◌, not, nat_lt, nat_le, find, filter_map, is_none, length, if◌then◌else◌}
 use Rattle.std.specs.List.{list_any}
 use Rattle.ttm_base.specs.declared.Mem.TheVariants.{System, Tt}
-use Rattle.ttm_base.specs.declared.BufId.{BufId}
-use Rattle.ttm_base.specs.declared.Place.{Place}
+use Rattle.journal_model.specs.Types.{BufId, Buffer, Cause, CauseRow, DryWhy, Ghost, Place, Reservation, Script, State}
 use Rattle.ttm_base.specs.Reach.{same_mem, intersects, length_of}
-use Rattle.journal_model.specs.declared.script.Script.{Script}
-use Rattle.journal_model.specs.declared.entry.CauseRow.{CauseRow}
-use Rattle.journal_model.specs.declared.entry.Cause.{Cause}
 use Rattle.journal_model.specs.declared.entry.Cause.TheVariants as cause
-use Rattle.journal_model.specs.declared.entry.DryWhy.{DryWhy}
 use Rattle.journal_model.specs.declared.entry.DryWhy.TheVariants as dry
-use Rattle.journal_model.specs.declared.state.State.{State}
-use Rattle.journal_model.specs.declared.state.Buffer.{Buffer}
-use Rattle.journal_model.specs.declared.state.Reservation.{Reservation}
-use Rattle.journal_model.specs.declared.state.Ghost.{Ghost}
 use Rattle.journal_model.specs.rules.State.{buffer, reservation, reservation_in, has_buffer, same_buffer, has_target}
 use Rattle.journal_model.specs.rules.Commands.{decl}
 use Rattle.journal_model.specs.rules.Places.{is_frame}
@@ -22,25 +13,25 @@ use Rattle.journal_model.specs.rules.Holds.{ghost_spans, live_buffers}
 use Rattle.journal_model.specs.rules.Choice.{choice, reach_of}
 use Rattle.journal_model.specs.rules.Lists.{in_order}
 
--- the place reaches at least as many pages as the buffer has
+-- rule 3 of a forced place asks for this: it reaches at least as many pages as the buffer has, whether they are free or not
 abbrev pub is_long_enough : Script → BufId → Place → Bool
 is_long_enough script b place = nat_le (decl script b).pages (length_of (reach_of script place))
 
--- the buffer is neither pinned nor reserved
+-- the buffer has no pin and no holder
 abbrev pub is_loose : Reservation → Bool
 is_loose g = (g.pins == 0) && is_none g.holder
 
--- the buffer stands in the place, is neither pinned nor held, and wasn't skipped
+-- the buffer is in the place's memory type with a page that the place reaches, has no pin and no holder, and isn't one of those skipped
 abbrev pub is_evictable : Script → State → List BufId → Place → BufId → Bool
 is_evictable script s skips place b =
     let x = buffer s b in
     same_mem x.mem place.mem && intersects x.spans (reach_of script place) && is_loose (reservation s b) && not (has_buffer skips b)
 
--- the first evictable buffer, in eviction order
+-- rule 4: the victim, which is the first evictable buffer in the order of eviction
 abbrev pub victim : Script → State → List BufId → Place → Option BufId
 victim script s skips place = find (is_evictable script s skips place) (in_order s place.mem)
 
--- the first ghost that holds a page that the place reaches
+-- rule 5: the first ghost that holds a page that the place reaches
 abbrev pub ghost_in : Script → State → Place → Option Ghost
 ghost_in script s place = find (λ g. intersects (ghost_spans place.mem g) (reach_of script place)) s.core.ghosts
 
@@ -52,12 +43,12 @@ has_frame x = list_any is_frame x.table
 abbrev pub swap_victim : State → Option BufId
 swap_victim s = find (λ b. is_loose (reservation s b) && has_frame (buffer s b)) (in_order s System ++ in_order s Tt)
 
--- the first ghost that holds a frame
+-- the first ghost that holds a frame, for which a fill waits
 abbrev pub ghost_with_frame : State → Option Ghost
 ghost_with_frame s = find (λ g. nat_lt 0 (length g.frames)) s.core.ghosts
 
--- Why a buffer can't be evicted: the first cause that holds. A buffer that has no more than a target in the place's manager is held by
--- the thread that searches for it, so `Outside`, which looks at its present spans, is told of no such buffer.
+-- why a buffer can't be evicted, by the first that applies: it is pinned; it has a holder; its spans have no page that the place reaches; or
+-- it was skipped. A buffer that has no more than a target there has a holder, who searches for it, so its present spans aren't asked
 abbrev pub cause_of : Script → Place → Reservation → Buffer → Cause
 cause_of script place g x =
     elim (nat_lt 0 g.pins) [
@@ -79,7 +70,7 @@ cause_row script reservations place e =
 abbrev pub causes : Script → State → Place → List CauseRow
 causes script s place = filter_map (cause_row script s.reservations place) (live_buffers s.core)
 
--- what a dry entry says of a place: that it is short, or the causes
+-- rules 3 and 6: what a dry entry says of a place, that it is too short, or the causes
 abbrev pub dry_why : Script → State → BufId → Place → DryWhy
 dry_why script s b place = if is_long_enough script b place then dry.Of (causes script s place) else dry.Short
 
@@ -103,7 +94,7 @@ same_why dry.Short dry.Short = true
 same_why (dry.Of xs) (dry.Of ys) = same_rows xs ys
 same_why _ _ = false
 
--- the place is too short; or it has no choice, no evictable buffer, and no ghost that will give pages back
+-- rules 3 and 6: the place is too short; or it has no choice, no evictable buffer, and no ghost that will give pages back
 abbrev pub is_dry : Script → State → List BufId → BufId → Place → Bool
 is_dry script s skips b place =
     not (is_long_enough script b place)

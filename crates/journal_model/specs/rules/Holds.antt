@@ -1,19 +1,12 @@
 -- Who holds what of VRAM, TT, frames and swap slots, and what is free.
 use Rattle.std.specs.Prelude.{ℕ, Bool, List, [], ◌∷◌, ◌++◌, Option, not, nat_eq, filter_map, flat_map, find, map, option_map, if◌then◌else◌}
 use Rattle.std.specs.List.{list_any, enumerate_from}
-use Rattle.ttm_base.specs.declared.Mem.{Mem}
+use Rattle.journal_model.specs.Types.{BufId, Buffer, Core, Ghost, Mem, Owner, Script, Span}
 use Rattle.ttm_base.specs.declared.Mem.TheVariants.{System, Tt, Vram}
-use Rattle.ttm_base.specs.declared.Span.{Span}
-use Rattle.ttm_base.specs.declared.BufId.{BufId}
-use Rattle.ttm_base.specs.declared.Owner.{Owner}
 use Rattle.ttm_base.specs.declared.Owner.TheVariants as owner
 use Rattle.ttm_base.specs.ListWords.{count_from}
 use Rattle.ttm_base.specs.Reach.{same_mem}
 use Rattle.ttm_base.specs.Holes.{is_free_beside}
-use Rattle.journal_model.specs.declared.script.Script.{Script}
-use Rattle.journal_model.specs.declared.state.Core.{Core}
-use Rattle.journal_model.specs.declared.state.Buffer.{Buffer}
-use Rattle.journal_model.specs.declared.state.Ghost.{Ghost}
 use Rattle.journal_model.specs.rules.State.{target_spans}
 use Rattle.journal_model.specs.rules.Places.{frames_of, slots_of}
 

@@ -1,11 +1,6 @@
 -- Legal journals, and the state and bytes that they lead to.
 use Rattle.std.specs.Prelude.{◌≡◌, ◌+◌, List, [], ◌∷◌, None, Result, Ok, Err, map, replicate}
-use Rattle.ttm_base.specs.declared.Actor.{Actor}
-use Rattle.ttm_base.specs.declared.Need.{Need}
-use Rattle.journal_model.specs.declared.script.Script.{Script}
-use Rattle.journal_model.specs.declared.entry.Entry.{Entry}
-use Rattle.journal_model.specs.declared.entry.Kind.{Kind}
-use Rattle.journal_model.specs.declared.state.State.{State}
+use Rattle.journal_model.specs.Types.{Actor, Entry, Kind, Need, Script, State}
 use Rattle.journal_model.specs.rules.State.{new_course, no_reservation}
 use Rattle.journal_model.specs.rules.Next.{next}
 use Rattle.journal_model.specs.rules.Apply.{apply}

@@ -1,12 +1,7 @@
 -- The twelve lists of buffers in eviction order (ttm_resource_manager's lru, ttm_lru_bulk_move).
 use Rattle.std.specs.Prelude.{ℕ, ◌+◌, ◌*◌, Bool, true, false, List, [], ◌∷◌, ◌++◌, Option, Some, None, ◌==◌, not, filter, map, flat_map, take, drop, unwrap_or, insert, length, slice_get, slice_set, if◌then◌else◌}
-use Rattle.ttm_base.specs.declared.Mem.{Mem}
-use Rattle.ttm_base.specs.declared.BufId.{BufId}
+use Rattle.journal_model.specs.Types.{BufId, Buffer, Mem, Reservation, Script, State}
 use Rattle.ttm_base.specs.Reach.{mem_number}
-use Rattle.journal_model.specs.declared.script.Script.{Script}
-use Rattle.journal_model.specs.declared.state.State.{State}
-use Rattle.journal_model.specs.declared.state.Buffer.{Buffer}
-use Rattle.journal_model.specs.declared.state.Reservation.{Reservation}
 use Rattle.journal_model.specs.rules.State.{live_in, reservation_in, without_buffer}
 use Rattle.journal_model.specs.rules.Commands.{decl}
 
@@ -28,18 +23,18 @@ same_group (Some g) None = false
 abbrev pub is_mate : Script → BufId → BufId → Bool
 is_mate script b c = same_group (decl script b).group (decl script c).group
 
--- the position behind the last that passes
+-- the position after the last that passes
 abbrev pub one_further : Bool → Option ℕ → Option ℕ
 one_further here (Some k) = Some (k + 1)
 one_further true None = Some 1
 one_further false None = None
 
--- the position behind the last element that passes
+-- the position after the last element that passes
 abbrev pub behind_last : (BufId → Bool) → List BufId → Option ℕ
 behind_last test [] = None
 behind_last test (c ∷ cs) = one_further (test c) (behind_last test cs)
 
--- b behind the last of its mates, or at the end where it has none
+-- b after the last of its mates, or at the end where it has none
 abbrev pub placed_in : (BufId → Bool) → BufId → List BufId → List BufId
 placed_in mate b l = insert l (unwrap_or (behind_last mate l) (length l)) b
 
@@ -66,6 +61,6 @@ touched script buffers reservations lists b = listed_as script lists b (reservat
 abbrev pub is_member : Script → ℕ → BufId → Bool
 is_member script group b = same_group (decl script b).group (Some group)
 
--- a list, its members of a group behind the others
+-- a list, its members of a group after the others
 abbrev pub members_last : (BufId → Bool) → List BufId → List BufId
 members_last member l = filter (λ b. not (member b)) l ++ filter member l

@@ -1,23 +1,14 @@
--- The entry that an actor makes next in a state, or what it needs first. What a read or a probe shows is left empty here, since
--- the bytes are not in the state.
+-- The entry that an actor makes next in a state, or what it needs first. Rules are those of `Tasks`, which says which one applies; here each
+-- gives its entry or need. What a read or a probe shows is left empty, since the bytes are not in the state.
 use Rattle.std.specs.Prelude.{ℕ, ◌+◌, Bool, true, false, [], Option, Some, None, Ok, Err, ◌==◌, ◌&&◌, not, nat_lt, find, length, slice_get, if◌then◌else◌}
-use Rattle.ttm_base.specs.declared.BufId.{BufId}
-use Rattle.ttm_base.specs.declared.Stamp.{Stamp}
-use Rattle.ttm_base.specs.declared.Actor.{Actor}
+use Rattle.journal_model.specs.Types.{Actor, BufId, Command, Course, Job, Kind, Script, Stamp, State, Task}
 use Rattle.ttm_base.specs.declared.Actor.TheVariants as actor
 use Rattle.ttm_base.specs.declared.Need.TheVariants as need
 use Rattle.ttm_base.specs.declared.Deny.TheVariants as deny
-use Rattle.journal_model.specs.declared.script.Script.{Script}
-use Rattle.journal_model.specs.declared.state.Course.{Course}
-use Rattle.journal_model.specs.declared.script.Command.{Command}
 use Rattle.journal_model.specs.declared.script.Command.TheVariants as command
-use Rattle.journal_model.specs.declared.entry.Kind.{Kind}
 use Rattle.journal_model.specs.declared.entry.Kind.TheVariants as kind
 use Rattle.journal_model.specs.declared.entry.Shown.TheVariants as shown
-use Rattle.journal_model.specs.declared.state.Task.{Task}
 use Rattle.journal_model.specs.declared.state.Task.TheVariants as task
-use Rattle.journal_model.specs.declared.state.State.{State}
-use Rattle.journal_model.specs.declared.state.Job.{Job}
 use Rattle.journal_model.specs.rules.State.{buffer, reservation, is_live, course}
 use Rattle.journal_model.specs.rules.Commands.{command_at_work}
 use Rattle.journal_model.specs.rules.Waits.{waited_for, jobs_before_read, is_idle}
@@ -27,36 +18,36 @@ use Rattle.journal_model.specs.rules.Tasks.{task_of}
 
 -- ---- starting and locking (ww_mutex, wait-die)
 
--- the next stamp
+-- rule 4: takes the next stamp
 abbrev pub next_ticket : State → Kind
 next_ticket s = kind.Ticket (record { 0 = s.last_stamp + 1 })
 
--- the first step of a command
+-- rules 3 and 4: the first step of a command. `new` is refused where the buffer is live; `touch` is its bulk move; any other takes a ticket
 abbrev pub step_of_start : State → Command → Step
 step_of_start s (command.New b) = Ok (if is_live s b then kind.Refused deny.Exists else kind.New b)
 step_of_start s (command.Touch group) = Ok (kind.Bulk group)
 step_of_start s _ = Ok (next_ticket s)
 
--- a younger thread that holds a buffer backs off from an older one's; any other waits
+-- rule 5: the thread has a younger stamp than the `holder` of the buffer, and holds a buffer itself, so it backs off
 abbrev pub backs_off : Course → Stamp → Bool
 backs_off c holder = elim c.stamp [ None ↦ false | Some mine ↦ nat_lt holder.0 mine.0 && nat_lt 0 (length c.held) ]
 
--- reserve a buffer that nobody holds
+-- rule 5: reserves a live buffer that nobody holds; where it has a holder, backs off or waits for that one
 abbrev pub step_of_holder : Course → BufId → Option Stamp → Step
 step_of_holder c b None = Ok (kind.Reserve b)
 step_of_holder c b (Some holder) = if backs_off c holder then Ok (kind.Backoff b holder) else Err (need.Holder holder)
 
--- reserving a buffer
+-- rule 5: the next named buffer; refused where it is dead
 abbrev pub step_of_lock : State → Course → BufId → Step
 step_of_lock s c b = elim (is_live s b) [ false ↦ Ok (kind.Refused deny.NoBuffer) | true ↦ step_of_holder c b (reservation s b).holder ]
 
 -- ---- acting
 
--- a result that shows nothing
+-- rule 2, and rule 10 of commands that have nothing more to do: a result that shows nothing
 abbrev pub plain : Step
 plain = Ok (kind.Result shown.Plain)
 
--- the command itself, once all is held, in place and filled
+-- rule 10: the command itself, once all is held, in place and filled
 abbrev pub step_of_act : Script → State → Command → Step
 step_of_act script s (command.Submit engine ops) = Ok (kind.Arm engine (next_job s engine))
 step_of_act script s (command.Free b) = Ok (kind.Free b (if is_idle s.core (buffer s b) then 0 else next_ghost s))
@@ -73,7 +64,7 @@ step_of_act script s (command.Touch group) = plain
 
 -- ---- the actors
 
--- the step of each task
+-- the step of each task. A search, a move, a fill and so on may come of more than one rule
 abbrev pub step_of_task : Script → State → Course → Command → Task → Step
 step_of_task script s c cmd task.Idle = Err need.NoCommand
 step_of_task script s c cmd task.Answer = plain
@@ -91,7 +82,7 @@ step_of_task script s c cmd (task.GiveUp d) = Ok (kind.Refused d)
 step_of_task script s c cmd (task.Refuse d) = Ok (kind.Refused d)
 step_of_task script s c cmd task.Act = step_of_act script s cmd
 
--- a thread's step
+-- a thread's step, by rule 1 where no command is left, and else by the first of the others that applies
 abbrev pub step_of_thread : Script → State → ℕ → Step
 step_of_thread script s thread =
     elim (command_at_work script s thread) [
@@ -103,7 +94,7 @@ step_of_thread script s thread =
 abbrev pub head_of : State → ℕ → Option Job
 head_of s ctx = find (λ j. (j.id.ctx == ctx) && not j.finished) s.core.jobs
 
--- its next packet once all that it waits for is done, and its end
+-- the job's next packet, once all that the job waits for is done, or its end where no packet is left
 abbrev pub step_of_job : State → Job → Step
 step_of_job s j =
     elim (nat_lt j.ran (length j.packets)) [

@@ -1,18 +1,12 @@
 -- Where the pages of buffers stand, how packets name them, and the aperture of TT.
 use Rattle.std.specs.Prelude.{ℕ, Bool, List, [], Option, Some, None, ◌++◌, ◌==◌, unwrap_or, option_map, slice_get, filter_map, flat_map, find, zip, is_some}
-use Rattle.ttm_base.specs.declared.Mem.{Mem}
+use Rattle.journal_model.specs.Types.{BufId, Buffer, Core, Loc, Mem, PagePlace, Span}
 use Rattle.ttm_base.specs.declared.Mem.TheVariants.{System, Tt, Vram}
-use Rattle.ttm_base.specs.declared.Span.{Span}
-use Rattle.ttm_base.specs.declared.BufId.{BufId}
-use Rattle.ttm_base.specs.declared.Loc.{Loc}
 use Rattle.ttm_base.specs.declared.Loc.TheVariants as loc
-use Rattle.ttm_base.specs.declared.PagePlace.{PagePlace}
 use Rattle.ttm_base.specs.declared.PagePlace.TheVariants as place
 use Rattle.ttm_base.specs.ListWords.{count_from}
 use Rattle.ttm_base.specs.Reach.{length_of}
 use Rattle.ttm_base.specs.Pages.{Page, nowhere, vram, frame, slot, Aperture}
-use Rattle.journal_model.specs.declared.state.Buffer.{Buffer}
-use Rattle.journal_model.specs.declared.state.Core.{Core}
 use Rattle.journal_model.specs.rules.State.{buffer_in}
 
 -- ---- pages of spans and of tables (ttm_resource, ttm_tt)

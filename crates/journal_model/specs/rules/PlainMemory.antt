@@ -1,15 +1,9 @@
 -- The memory in which each buffer has its own place for good, after the commands in journal order. A buffer that isn't live has
 -- zeros. There are no places, packets, moves, ghosts, lists or swap here.
 use Rattle.std.specs.Prelude.{ℕ, ◌+◌, ◌-◌, List, [], ◌∷◌, ◌++◌, Option, Some, ◌==◌, ◌&&◌, nat_lt, nat_le, bit_xor, map, fold, length, unwrap_or, slice_get, slice_index, if◌then◌else◌}
-use Rattle.ttm_base.specs.declared.BufId.{BufId}
-use Rattle.ttm_base.specs.declared.JobId.{JobId}
-use Rattle.ttm_base.specs.declared.Op.{Op}
+use Rattle.journal_model.specs.Types.{BufId, Command, Entry, JobId, Kind, Op, Script}
 use Rattle.ttm_base.specs.declared.Op.TheVariants as op
-use Rattle.journal_model.specs.declared.script.Script.{Script}
-use Rattle.journal_model.specs.declared.script.Command.{Command}
 use Rattle.journal_model.specs.declared.script.Command.TheVariants as command
-use Rattle.journal_model.specs.declared.entry.Entry.{Entry}
-use Rattle.journal_model.specs.declared.entry.Kind.{Kind}
 use Rattle.journal_model.specs.declared.entry.Kind.TheVariants as kind
 use Rattle.ttm_base.specs.ListWords.{count_from}
 use Rattle.ttm_base.specs.Cutting.{Piece, pieces_of}

@@ -2,14 +2,10 @@
 use Rattle.std.specs.Prelude.{Bool, true, false, Option, ◌&&◌, ◌||◌, not, find}
 use Rattle.std.specs.List.{list_all}
 use Rattle.ttm_base.specs.declared.Mem.TheVariants.{System, Tt, Vram}
-use Rattle.ttm_base.specs.declared.BufId.{BufId}
+use Rattle.journal_model.specs.Types.{BufId, Buffer, Command, Script, State}
 use Rattle.ttm_base.specs.Reach.{same_mem}
 use Rattle.ttm_base.specs.Placement.{compatible}
-use Rattle.journal_model.specs.declared.script.Script.{Script}
-use Rattle.journal_model.specs.declared.script.Command.{Command}
 use Rattle.journal_model.specs.declared.script.Command.TheVariants as command
-use Rattle.journal_model.specs.declared.state.State.{State}
-use Rattle.journal_model.specs.declared.state.Buffer.{Buffer}
 use Rattle.journal_model.specs.rules.State.{buffer, has_target}
 use Rattle.journal_model.specs.rules.Commands.{decl, named}
 use Rattle.journal_model.specs.rules.Places.{is_frame}

@@ -1,26 +1,21 @@
--- The search of pages for a buffer (ttm_bo_mem_space): a choice, a victim, a ghost to wait for, or a dry place.
+-- The search of pages for a buffer (ttm_bo_mem_space): a choice, a victim, a ghost to wait for, or a dry place. A search is the task of a named
+-- buffer by rule 9 of `Tasks`, and of a victim in VRAM by rule 6. Its own rules are in `step_of_place_search`, the first that applies:
+--   1. not yet under pressure, a place of the first round has a choice: take it
+--   2. the forced place at work has a choice: take it
+--   3. that place is too short for the buffer: it is dry
+--   4. a buffer in it can be evicted: catch it
+--   5. a ghost holds a page of it: wait for the ghost
+--   6. else it is dry
+-- The search fails once every forced place is dry (`ApplyVictims`), and is then no task any more.
 use Rattle.std.specs.Prelude.{ℕ, Bool, true, false, List, [], ◌∷◌, Option, Some, None, Result, Ok, Err, ◌||◌, map, unwrap_or, slice_get, if◌then◌else◌}
-use Rattle.ttm_base.specs.declared.Mem.{Mem}
+use Rattle.journal_model.specs.Types.{BufId, Buffer, Command, Course, FlaggedPlace, Kind, Mem, Need, Place, Script, SearchAim, Span, State, Why}
 use Rattle.ttm_base.specs.declared.Mem.TheVariants.{System, Tt, Vram}
-use Rattle.ttm_base.specs.declared.Span.{Span}
-use Rattle.ttm_base.specs.declared.BufId.{BufId}
-use Rattle.ttm_base.specs.declared.Place.{Place}
-use Rattle.ttm_base.specs.declared.FlaggedPlace.{FlaggedPlace}
-use Rattle.ttm_base.specs.declared.Need.{Need}
 use Rattle.ttm_base.specs.declared.Need.TheVariants as need
 use Rattle.ttm_base.specs.Placement.{first_places, forced_places}
-use Rattle.journal_model.specs.declared.script.Script.{Script}
-use Rattle.journal_model.specs.declared.state.Course.{Course}
-use Rattle.journal_model.specs.declared.script.Command.{Command}
-use Rattle.journal_model.specs.declared.entry.Kind.{Kind}
 use Rattle.journal_model.specs.declared.entry.Kind.TheVariants as kind
-use Rattle.journal_model.specs.declared.entry.Why.{Why}
 use Rattle.journal_model.specs.declared.entry.Why.TheVariants as why
 use Rattle.journal_model.specs.declared.entry.DryWhy.TheVariants as dry
-use Rattle.journal_model.specs.declared.state.SearchAim.{SearchAim}
 use Rattle.journal_model.specs.declared.state.SearchAim.TheVariants.{Asked, Hop}
-use Rattle.journal_model.specs.declared.state.State.{State}
-use Rattle.journal_model.specs.declared.state.Buffer.{Buffer}
 use Rattle.journal_model.specs.rules.State.{buffer, has_buffer}
 use Rattle.journal_model.specs.rules.Commands.{asked_places, whole, as_fallback}
 use Rattle.journal_model.specs.rules.Choice.{choice}
@@ -41,11 +36,12 @@ pub record PlaceSearch : Type 0 where
 abbrev pub is_caught : Course → BufId → Bool
 is_caught c b = has_buffer (map (λ v. v.b) c.caught) b
 
--- the hop on the way between SYSTEM and VRAM
+-- the list for the hop on the way between SYSTEM and VRAM: all of TT, under pressure alone
 abbrev pub through_tt : List FlaggedPlace
 through_tt = as_fallback (whole Tt) ∷ []
 
--- a victim's search has come no way
+-- the search of `b`, by what it is for. Of its progress the course tells, but not of a victim's: that one has come no way, since it is over
+-- as soon as it doesn't succeed at once
 abbrev pub place_search : Script → Command → Course → BufId → SearchAim → PlaceSearch
 place_search script cmd c b Asked = record { list = asked_places script cmd b; forced = c.forced; dry = c.dry }
 place_search script cmd c b Hop =
@@ -59,13 +55,13 @@ aim_of c b x = if is_caught c b || has_some_target x then Hop else Asked
 abbrev pub place_search_at_work : Script → State → Course → Command → BufId → PlaceSearch
 place_search_at_work script s c cmd b = place_search script cmd c b (aim_of c b (buffer s b))
 
--- for what a victim of a place is caught
+-- for what a victim is caught, by the place that it has to leave
 abbrev pub why_of : Mem → Why
 why_of Vram = why.Vram
 why_of Tt = why.Tt
 why_of System = why.Swap
 
--- the k-th forced place has no choice
+-- rules 3 to 6: the `k`-th forced place has no choice
 abbrev pub step_of_crowded : Script → State → Course → BufId → ℕ → Place → Step
 step_of_crowded script s c b k place =
     elim (is_long_enough script b place) [
@@ -79,22 +75,23 @@ step_of_crowded script s c b k place =
       ]
     ]
 
--- at the k-th forced place
+-- rule 2, and else those after it, at the `k`-th forced place
 abbrev pub step_of_forced_place : Script → State → Course → BufId → ℕ → Place → Step
 step_of_forced_place script s c b k place =
     elim (choice script s.core b place) [ Some spans ↦ Ok (kind.Take b place.mem spans) | None ↦ step_of_crowded script s c b k place ]
 
--- at the k-th of the forced places; no search gets past the last, so the place in SYSTEM is never tried for want of one
+-- rules 2 to 6 at the `k`-th of the forced places. No search gets past the last: the whole of SYSTEM stands for a place that isn't there, and
+-- is never tried
 abbrev pub step_of_forced : Script → State → Course → BufId → ℕ → List Place → Step
 step_of_forced script s c b k places = step_of_forced_place script s c b k (unwrap_or (slice_get places k) (whole System))
 
--- the first place with a choice
+-- rule 1: the first of the places that has a choice, by its memory type, with the spans that are chosen
 abbrev pub first_choice : Script → State → BufId → List Place → Option (Mem × List Span)
 first_choice script s b [] = None
 first_choice script s b (place ∷ places) =
     elim (choice script s.core b place) [ Some spans ↦ Some (place.mem, spans) | None ↦ first_choice script s b places ]
 
--- not yet under pressure, the first place with a choice among those tried first; else the forced place at work
+-- the rules in their order: 1 unless the search is under pressure, and then 2 to 6 at the forced place at work
 abbrev pub step_of_place_search : Script → State → Course → BufId → PlaceSearch → Step
 step_of_place_search script s c b q =
     elim q.forced [

@@ -1,22 +1,13 @@
 -- The bytes of VRAM, frames and slots after an entry, and what an entry shows of them. Packets go through the aperture of the
 -- state before them.
 use Rattle.std.specs.Prelude.{ℕ, ◌+◌, ◌/◌, ◌%◌, Bool, false, ◌&&◌, nat_lt, if◌then◌else◌, List, [], ◌∷◌, Option, Some, find, map, option_and_then, unwrap_or, slice_get}
-use Rattle.ttm_base.specs.declared.JobId.{JobId}
+use Rattle.journal_model.specs.Types.{Actor, Buffer, Command, Core, JobId, Kind, Packet, Script, Shown, Sizes, State}
+use Rattle.journal_model.specs.Limits.{page_bytes}
 use Rattle.ttm_base.specs.declared.PagePlace.TheVariants as place
-use Rattle.ttm_base.specs.declared.Actor.{Actor}
-use Rattle.ttm_base.specs.declared.Packet.{Packet}
 use Rattle.ttm_base.specs.declared.Packet.TheVariants as packet
-use Rattle.journal_model.specs.declared.script.Script.{Script}
-use Rattle.journal_model.specs.declared.script.Sizes.{Sizes}
-use Rattle.journal_model.specs.declared.script.Command.{Command}
 use Rattle.journal_model.specs.declared.script.Command.TheVariants as command
-use Rattle.journal_model.specs.declared.entry.Kind.{Kind}
 use Rattle.journal_model.specs.declared.entry.Kind.TheVariants as kind
-use Rattle.journal_model.specs.declared.entry.Shown.{Shown}
 use Rattle.journal_model.specs.declared.entry.Shown.TheVariants as shown
-use Rattle.journal_model.specs.declared.state.State.{State}
-use Rattle.journal_model.specs.declared.state.Core.{Core}
-use Rattle.journal_model.specs.declared.state.Buffer.{Buffer}
 use Rattle.ttm_base.specs.ListWords.{count_from}
 use Rattle.ttm_base.specs.Pages.{Page, nowhere, vram, frame, slot, PageBytes, with_bytes}
 use Rattle.ttm_base.specs.Packets.{after_packet, probe_piece}
@@ -43,11 +34,11 @@ is_there sizes (slot k) = nat_lt k sizes.swap
 
 -- the bytes of the pages that there are; beyond them zeros are read
 abbrev pub within : Sizes → Stores → Stores
-within sizes stores = λ page o. if is_there sizes page && nat_lt o 4096 then stores page o else 0
+within sizes stores = λ page o. if is_there sizes page && nat_lt o page_bytes then stores page o else 0
 
 -- a byte of a live buffer
 abbrev pub byte_of : Stores → Buffer → ℕ → ℕ
-byte_of stores x i = stores (page_at x (i / 4096)) (i % 4096)
+byte_of stores x i = stores (page_at x (i / page_bytes)) (i % page_bytes)
 
 -- len bytes of a live buffer from an offset on
 abbrev pub bytes_of : Stores → Buffer → ℕ → ℕ → List ℕ
@@ -57,7 +48,7 @@ bytes_of stores x off len = map (byte_of stores x) (count_from 1 len off)
 abbrev pub put_bytes : Buffer → ℕ → List ℕ → Stores → Stores
 put_bytes x off [] stores = stores
 put_bytes x off (byte ∷ bytes) stores =
-    put_bytes x (off + 1) bytes (with_bytes stores (page_at x (off / 4096)) (off % 4096) 1 (λ i. byte))
+    put_bytes x (off + 1) bytes (with_bytes stores (page_at x (off / page_bytes)) (off % page_bytes) 1 (λ i. byte))
 
 -- in the place of a packet that isn't there
 abbrev pub no_packet : Packet
@@ -76,7 +67,7 @@ written s _ stores = stores
 
 -- all bytes of a page
 abbrev pub with_page_bytes : Page → (ℕ → ℕ) → Stores → Stores
-with_page_bytes page value stores = with_bytes stores page 0 4096 value
+with_page_bytes page value stores = with_bytes stores page 0 page_bytes value
 
 -- by the state before it; all other kinds leave the bytes alone
 abbrev pub stores_after : Script → State → Actor → Kind → Stores → Stores

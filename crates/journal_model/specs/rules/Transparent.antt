@@ -1,14 +1,9 @@
 -- A journal is transparent where the result of each read and each packet of a probe shows the bytes of the plain memory: a read those
 -- before it, a probe those that the journal before the job's arming and then the operations before it in the job leave.
 use Rattle.std.specs.Prelude.{◌≡◌, ℕ, List, [], ◌∷◌, Option, Some, None}
-use Rattle.ttm_base.specs.declared.Actor.{Actor}
-use Rattle.journal_model.specs.declared.script.Script.{Script}
-use Rattle.journal_model.specs.declared.script.Command.{Command}
+use Rattle.journal_model.specs.Types.{Actor, Command, Entry, Kind, Script, Shown}
 use Rattle.journal_model.specs.declared.script.Command.TheVariants as command
-use Rattle.journal_model.specs.declared.entry.Entry.{Entry}
-use Rattle.journal_model.specs.declared.entry.Kind.{Kind}
 use Rattle.journal_model.specs.declared.entry.Kind.TheVariants as kind
-use Rattle.journal_model.specs.declared.entry.Shown.{Shown}
 use Rattle.journal_model.specs.declared.entry.Shown.TheVariants as shown
 use Rattle.journal_model.specs.rules.Apply.{thread_of, engine_of}
 use Rattle.journal_model.specs.rules.PlainMemory.{Memory, Plain, first_plain, plain_after, memory_range, command_of}

@@ -1,17 +1,10 @@
 -- What must be done first: which jobs are waited for, by usage (dma_resv).
 use Rattle.std.specs.Prelude.{Bool, true, false, List, [], Option, ◌&&◌, not, filter, map, is_none, option_to_list, if◌then◌else◌}
 use Rattle.std.specs.List.{list_any}
-use Rattle.ttm_base.specs.declared.JobId.{JobId}
+use Rattle.journal_model.specs.Types.{BufId, Buffer, Core, Fence, JobId, Mem, Op, Usage}
 use Rattle.ttm_base.specs.Fences.{named_job}
-use Rattle.ttm_base.specs.declared.Usage.{Usage}
 use Rattle.ttm_base.specs.declared.Usage.TheVariants as usage
-use Rattle.journal_model.specs.declared.state.Core.{Core}
-use Rattle.ttm_base.specs.declared.Op.{Op}
-use Rattle.ttm_base.specs.declared.BufId.{BufId}
-use Rattle.ttm_base.specs.declared.Mem.{Mem}
 use Rattle.ttm_base.specs.declared.Mem.TheVariants.{System, Tt, Vram}
-use Rattle.journal_model.specs.declared.state.Buffer.{Buffer}
-use Rattle.ttm_base.specs.declared.Fence.{Fence}
 use Rattle.journal_model.specs.rules.State.{buffer_in}
 use Rattle.journal_model.specs.rules.Commands.{writes}
 pub use Rattle.journal_model.specs.rules.JobNames.{same_job}

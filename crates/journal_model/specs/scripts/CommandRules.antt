@@ -1,11 +1,9 @@
 -- Which commands may stand in a script.
 use Rattle.std.specs.Prelude.{ℕ, ◌+◌, ◌*◌, Bool, ◌==◌, ◌&&◌, not, nat_lt, nat_le, sum_by, length}
 use Rattle.std.specs.List.{list_all}
-use Rattle.ttm_base.specs.declared.BufId.{BufId}
-use Rattle.ttm_base.specs.declared.Op.{Op}
+use Rattle.journal_model.specs.Types.{BufId, Command, Op, Script}
+use Rattle.journal_model.specs.Limits.{max_job_buffers, max_job_ops, max_offset, max_shown_bytes, page_bytes}
 use Rattle.ttm_base.specs.declared.Op.TheVariants as op
-use Rattle.journal_model.specs.declared.script.Script.{Script}
-use Rattle.journal_model.specs.declared.script.Command.{Command}
 use Rattle.journal_model.specs.declared.script.Command.TheVariants as command
 use Rattle.ttm_base.specs.Cutting.{op_len}
 use Rattle.journal_model.specs.rules.Commands.{decl, named}
@@ -22,7 +20,7 @@ is_declared script b = nat_lt b.0 (length script.buffers)
 -- a range of at least a byte inside a buffer
 abbrev pub is_range_of : Script → BufId → ℕ → ℕ → Bool
 is_range_of script b off len =
-    is_declared script b && nat_le off 16777216 && is_between 1 16777216 len && nat_le (off + len) (4096 * (decl script b).pages)
+    is_declared script b && nat_le off max_offset && is_between 1 max_offset len && nat_le (off + len) (page_bytes * (decl script b).pages)
 
 -- an operation inside its buffers, which are two where it has two ranges
 abbrev pub is_op : Script → Op → Bool
@@ -31,7 +29,7 @@ is_op script (op.Copy dst doff src soff len) =
     is_range_of script dst doff len && is_range_of script src soff len && not (dst.0 == src.0)
 is_op script (op.Xor dst doff src soff len) =
     is_range_of script dst doff len && is_range_of script src soff len && not (dst.0 == src.0)
-is_op script (op.Probe src off len) = is_range_of script src off len && nat_le len 256
+is_op script (op.Probe src off len) = is_range_of script src off len && nat_le len max_shown_bytes
 
 -- a byte
 abbrev pub is_byte : ℕ → Bool
@@ -46,13 +44,13 @@ is_command script (command.Unpin b) = is_declared script b
 is_command script (command.Find b) = is_declared script b
 is_command script (command.SwapOut b) = is_declared script b
 is_command script (command.Write b off bytes) =
-    is_range_of script b off (length bytes) && nat_le (length bytes) 256 && list_all is_byte bytes
-is_command script (command.Read b off len) = is_range_of script b off len && nat_le len 256
+    is_range_of script b off (length bytes) && nat_le (length bytes) max_shown_bytes && list_all is_byte bytes
+is_command script (command.Read b off len) = is_range_of script b off len && nat_le len max_shown_bytes
 is_command script (command.Move b mem) = is_declared script b
 is_command script (command.Touch group) = nat_le group 15
 is_command script (command.Submit engine ops) =
-    is_between 1 script.sizes.engines engine && is_between 1 64 (length ops) && list_all (is_op script) ops
-    && nat_le (length (named (command.Submit engine ops))) 16
+    is_between 1 script.sizes.engines engine && is_between 1 max_job_ops (length ops) && list_all (is_op script) ops
+    && nat_le (length (named (command.Submit engine ops))) max_job_buffers
 
 -- how many bytes the operations of a command take
 abbrev pub command_len : Command → ℕ

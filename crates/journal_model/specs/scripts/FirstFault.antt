@@ -1,20 +1,12 @@
 -- The first broken line of bytes, and on it the least broken rule.
 use Rattle.std.specs.Prelude.{ℕ, ◌+◌, ◌-◌, Bool, true, false, List, [], ◌∷◌, ◌++◌, Option, Some, None, Result, Ok, Err, length, take, map, unwrap_or, slice_get, slice_set, ◌==◌, ◌||◌, not, nat_lt, if◌then◌else◌}
 use Rattle.std.specs.List.{list_any}
-use Rattle.ttm_base.specs.declared.BufId.{BufId}
-use Rattle.ttm_base.specs.declared.Op.{Op}
+use Rattle.journal_model.specs.Types.{Actor, BufId, Command, Decl, FlaggedPlace, Mark, MarkKind, Op, Script, Sizes}
+use Rattle.journal_model.specs.Limits.{max_script_bytes}
 use Rattle.ttm_base.specs.declared.Op.TheVariants as op
-use Rattle.ttm_base.specs.declared.Actor.{Actor}
 use Rattle.ttm_base.specs.declared.Actor.TheVariants as actor
 use Rattle.ttm_base.specs.declared.Mem.TheVariants.{System}
-use Rattle.ttm_base.specs.declared.FlaggedPlace.{FlaggedPlace}
-use Rattle.journal_model.specs.declared.script.Script.{Script}
-use Rattle.journal_model.specs.declared.script.Sizes.{Sizes}
-use Rattle.journal_model.specs.declared.script.Decl.{Decl}
-use Rattle.journal_model.specs.declared.script.Command.{Command}
 use Rattle.journal_model.specs.declared.script.Command.TheVariants as command
-use Rattle.journal_model.specs.declared.script.Mark.{Mark}
-use Rattle.journal_model.specs.declared.script.MarkKind.{MarkKind}
 use Rattle.journal_model.specs.declared.script.MarkKind.TheVariants as mark
 use Rattle.journal_model.specs.declared.line.Progress.{Progress}
 use Rattle.journal_model.specs.declared.line.Phase.{Phase}
@@ -124,7 +116,7 @@ onto_last x lists = elim (slice_get lists (length lists - 1)) [ Some xs ↦ slic
 abbrev pub with_command : Progress → Command → Progress
 with_command p c = record p { script = record (p.script) { threads = onto_last c p.script.threads }; lines = p.lines + 1 }
 
--- a mark behind the commands so far of the thread at work
+-- a mark after the commands so far of the thread at work
 abbrev pub mark_here : Script → MarkKind → Mark
 mark_here script kind =
     record { thread = length script.threads; after = length (commands_of script (length script.threads)); kind = kind }
@@ -248,7 +240,7 @@ script_from p n (text ∷ texts) = elim (after_line p text) [ Ok next ↦ script
 
 -- the script that the bytes say, or line and rule of the first fault: line 0 is the whole text, and 1 the first line
 abbrev pub script_of : Text → Result Script (ℕ × ℕ)
-script_of bytes = if nat_lt 1048576 (length bytes) then Err (0, 1) else script_from nothing_read 0 (lines_of bytes)
+script_of bytes = if nat_lt max_script_bytes (length bytes) then Err (0, 1) else script_from nothing_read 0 (lines_of bytes)
 
 -- line and rule of bytes that are no script
 abbrev pub first_fault : Text → Option (ℕ × ℕ)

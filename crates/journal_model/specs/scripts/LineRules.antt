@@ -1,9 +1,8 @@
 -- The rules that a line may break, from the fifth on, each for itself, on a line whose words are read as far as they can be.
 use Rattle.std.specs.Prelude.{ℕ, ◌+◌, ◌*◌, Bool, true, false, List, [], ◌++◌, Option, Some, None, is_none, length, flat_map, map, sum_by, unwrap_or, option_to_list, bytes_eq, ◌==◌, ◌||◌, not, nat_lt, nat_le, if◌then◌else◌}
 use Rattle.std.specs.List.{list_any}
-use Rattle.ttm_base.specs.declared.BufId.{BufId}
-use Rattle.ttm_base.specs.declared.Op.{Op}
-use Rattle.journal_model.specs.declared.script.Script.{Script}
+use Rattle.journal_model.specs.Types.{BufId, Op, Script}
+use Rattle.journal_model.specs.Limits.{max_buffers, max_job_buffers, max_job_ops, max_op_bytes, max_places, max_shown_bytes, max_thread_lines, max_threads, page_bytes, space_pages}
 use Rattle.journal_model.specs.declared.line.Progress.{Progress}
 use Rattle.journal_model.specs.declared.line.Line.{Line}
 use Rattle.journal_model.specs.declared.line.Line.TheVariants as line
@@ -29,6 +28,23 @@ use Rattle.journal_model.specs.scripts.CommandRules.{is_between}
 use Rattle.journal_model.specs.scripts.ScriptRules.{is_name}
 use Rattle.journal_model.specs.marks.ByName.{job_by_name}
 use Rattle.journal_model.specs.scripts.MarkRules.{ThreadMappings, thread_mappings_at_end, has_apart_ranges}
+
+-- ---- the rules
+--
+--    5  a number isn't plain or is out of its range                                          `lacks_number`
+--    6  a name is malformed, unknown, or declared twice                                      `lacks_name`
+--    7  a place is malformed, a list has none or too many, or all its places are desired     `lacks_place`
+--    8  a range passes its buffer or its space, a length is 0, or too much would be shown    `has_range_fault`
+--    9  bytes are malformed, none, or too many                                               `has_byte_fault`
+--   10  one buffer twice in a copy or xor, or a job with too many buffers or operations      `has_job_fault`
+--   11  an engine or an actor isn't there                                                    `lacks_actor`
+--   12  one line too many of buffers, of threads, or of a thread                             `is_one_too_many`
+--   13  the lengths of all operations so far are too long                                    `is_too_long`
+--   14  a map of a mapped buffer, or an unmap, peek or poke of one that isn't mapped         `has_map_fault`
+--   15  a page of a range of addresses isn't mapped at the line                              `lacks_page`
+--
+-- The least of them counts (`rule_broken`). The first four are in `FirstFault`: the input is too long; a line's bytes; its first word; the
+-- number of its words, and its fixed words.
 
 -- ---- rule 5: a number isn't plain or is out of its range
 
@@ -133,7 +149,7 @@ is_no_list most places = list_any is_no_place places || not (is_between 1 most (
 -- in a line; in version 2 some place must be one that is tried under pressure
 abbrev pub lacks_place : Line → Bool
 lacks_place (line.Buffer head want busy) = is_no_list 4 want || is_no_list 4 busy
-lacks_place (line.Placed head list) = is_no_list 8 list || not (list_any may_force list)
+lacks_place (line.Placed head list) = is_no_list max_places list || not (list_any may_force list)
 lacks_place _ = false
 
 -- ---- rule 8: a range passes its buffer or its space, a length is 0, or too many bytes would be shown
@@ -148,12 +164,12 @@ abbrev pub is_more_than : ℕ → Option ℕ → Bool
 is_more_than most (Some n) = nat_lt most n
 is_more_than most None = false
 
--- the range ends behind the buffer
+-- the range ends after the buffer
 abbrev pub passes : Script → Option BufId → Option ℕ → Option ℕ → Bool
-passes script (Some b) (Some off) (Some len) = nat_lt (4096 * (decl script b).pages) (off + len)
+passes script (Some b) (Some off) (Some len) = nat_lt (page_bytes * (decl script b).pages) (off + len)
 passes script _ _ _ = false
 
--- the range is empty or ends behind the buffer
+-- the range is empty or ends after the buffer
 abbrev pub has_wrong_range : Script → Option BufId → Option ℕ → Option ℕ → Bool
 has_wrong_range script b off len = is_zero len || passes script b off len
 
@@ -162,7 +178,7 @@ abbrev pub passes_in_op : Script → OpWord → Bool
 passes_in_op script (op_word.Fill dst off len byte) = has_wrong_range script dst off len
 passes_in_op script (op_word.Copy dst doff src soff len) = has_wrong_range script dst doff len || passes script src soff len
 passes_in_op script (op_word.Xor dst doff src soff len) = has_wrong_range script dst doff len || passes script src soff len
-passes_in_op script (op_word.Probe src off len) = has_wrong_range script src off len || is_more_than 256 len
+passes_in_op script (op_word.Probe src off len) = has_wrong_range script src off len || is_more_than max_shown_bytes len
 passes_in_op script op_word.Malformed = false
 
 -- malformed bytes have no length
@@ -175,12 +191,12 @@ abbrev pub passes_end : ℕ → Option ℕ → Option ℕ → Bool
 passes_end end (Some first) (Some len) = nat_lt end (first + len)
 passes_end end _ _ = false
 
--- the pages of the buffer end behind it
+-- the pages end after those of the buffer
 abbrev pub passes_pages : Script → Option BufId → Option ℕ → Option ℕ → Bool
 passes_pages script (Some b) off n = passes_end (decl script b).pages off n
 passes_pages script None off n = false
 
--- the range is empty or ends behind the space
+-- the range is empty or ends after the space
 abbrev pub has_wrong_addresses : Option ℕ → Option ℕ → Bool
 has_wrong_addresses addr len = is_zero len || passes_end 4294967296 addr len
 
@@ -189,16 +205,16 @@ abbrev pub passes_in_vop : VOpWord → Bool
 passes_in_vop (vop_word.Fill addr len byte) = has_wrong_addresses addr len
 passes_in_vop (vop_word.Copy addr from len) = has_wrong_addresses addr len || has_wrong_addresses from len
 passes_in_vop (vop_word.Xor addr from len) = has_wrong_addresses addr len || has_wrong_addresses from len
-passes_in_vop (vop_word.Probe addr len) = has_wrong_addresses addr len || is_more_than 256 len
+passes_in_vop (vop_word.Probe addr len) = has_wrong_addresses addr len || is_more_than max_shown_bytes len
 passes_in_vop vop_word.Malformed = false
 
 -- in a line
 abbrev pub has_range_fault : Script → Line → Bool
 has_range_fault script (line.Write how b off bytes) = bytes_pass script b off bytes
-has_range_fault script (line.Read how b off len) = has_wrong_range script b off len || is_more_than 256 len
+has_range_fault script (line.Read how b off len) = has_wrong_range script b off len || is_more_than max_shown_bytes len
 has_range_fault script (line.Submit engine ops) = list_any (passes_in_op script) ops
-has_range_fault script (line.Vmap va n b off) = passes_end 1048576 va n || passes_pages script b off n
-has_range_fault script (line.Vunmap va n) = passes_end 1048576 va n
+has_range_fault script (line.Vmap va n b off) = passes_end space_pages va n || passes_pages script b off n
+has_range_fault script (line.Vunmap va n) = passes_end space_pages va n
 has_range_fault script (line.Vsubmit engine ops) = list_any passes_in_vop ops
 has_range_fault script _ = false
 
@@ -216,7 +232,7 @@ lacks_byte_in_vop _ = false
 
 -- the bytes of a write
 abbrev pub are_wrong_bytes : Option (List ℕ) → Bool
-are_wrong_bytes (Some bytes) = not (is_between 1 256 (length bytes))
+are_wrong_bytes (Some bytes) = not (is_between 1 max_shown_bytes (length bytes))
 are_wrong_bytes None = true
 
 -- in a line
@@ -249,7 +265,7 @@ buffers_of_word op_word.Malformed = []
 
 -- more than 64 operations or 16 buffers
 abbrev pub is_big_job : List OpWord → Bool
-is_big_job ops = nat_lt 64 (length ops) || nat_lt 16 (length (first_mentions [] (flat_map buffers_of_word ops)))
+is_big_job ops = nat_lt max_job_ops (length ops) || nat_lt max_job_buffers (length (first_mentions [] (flat_map buffers_of_word ops)))
 
 -- the operation of its words; a word that says nothing breaks a lesser rule
 abbrev pub vop_in : VOpWord → VOp
@@ -269,7 +285,7 @@ named_job d ops = job_by_name d.regions (map vop_in ops)
 
 -- more than 64 operations or 16 buffers, where each page is mapped
 abbrev pub is_big_named_job : Option (List Op) → Bool
-is_big_named_job (Some ops) = nat_lt 64 (length ops) || nat_lt 16 (length (first_mentions [] (flat_map buffers_of_op ops)))
+is_big_named_job (Some ops) = nat_lt max_job_ops (length ops) || nat_lt max_job_buffers (length (first_mentions [] (flat_map buffers_of_op ops)))
 is_big_named_job None = false
 
 -- in a line
@@ -301,20 +317,20 @@ lacks_actor _ = false
 
 -- 256 buffers, 16 threads, and 4096 lines of a thread are the most
 abbrev pub is_one_too_many : Progress → Line → Bool
-is_one_too_many p (line.Buffer head want busy) = nat_le 256 (length p.script.buffers)
-is_one_too_many p (line.Placed head list) = nat_le 256 (length p.script.buffers)
-is_one_too_many p line.Thread = nat_le 16 (length p.script.threads)
-is_one_too_many p (line.Plain verb b) = nat_le 4096 p.lines
-is_one_too_many p (line.Write how b off bytes) = nat_le 4096 p.lines
-is_one_too_many p (line.Read how b off len) = nat_le 4096 p.lines
-is_one_too_many p (line.Move b mem) = nat_le 4096 p.lines
-is_one_too_many p (line.Touch group) = nat_le 4096 p.lines
-is_one_too_many p (line.Submit engine ops) = nat_le 4096 p.lines
-is_one_too_many p (line.Map b) = nat_le 4096 p.lines
-is_one_too_many p (line.Unmap b) = nat_le 4096 p.lines
-is_one_too_many p (line.Vmap va n b off) = nat_le 4096 p.lines
-is_one_too_many p (line.Vunmap va n) = nat_le 4096 p.lines
-is_one_too_many p (line.Vsubmit engine ops) = nat_le 4096 p.lines
+is_one_too_many p (line.Buffer head want busy) = nat_le max_buffers (length p.script.buffers)
+is_one_too_many p (line.Placed head list) = nat_le max_buffers (length p.script.buffers)
+is_one_too_many p line.Thread = nat_le max_threads (length p.script.threads)
+is_one_too_many p (line.Plain verb b) = nat_le max_thread_lines p.lines
+is_one_too_many p (line.Write how b off bytes) = nat_le max_thread_lines p.lines
+is_one_too_many p (line.Read how b off len) = nat_le max_thread_lines p.lines
+is_one_too_many p (line.Move b mem) = nat_le max_thread_lines p.lines
+is_one_too_many p (line.Touch group) = nat_le max_thread_lines p.lines
+is_one_too_many p (line.Submit engine ops) = nat_le max_thread_lines p.lines
+is_one_too_many p (line.Map b) = nat_le max_thread_lines p.lines
+is_one_too_many p (line.Unmap b) = nat_le max_thread_lines p.lines
+is_one_too_many p (line.Vmap va n b off) = nat_le max_thread_lines p.lines
+is_one_too_many p (line.Vunmap va n) = nat_le max_thread_lines p.lines
+is_one_too_many p (line.Vsubmit engine ops) = nat_le max_thread_lines p.lines
 is_one_too_many p _ = false
 
 -- ---- rule 13: the lengths of all operations so far
@@ -343,7 +359,7 @@ lens_of_line _ = 0
 
 -- 67108864 is the most for a whole script
 abbrev pub is_too_long : Progress → Line → Bool
-is_too_long p l = nat_lt 67108864 (p.lens + lens_of_line l)
+is_too_long p l = nat_lt max_op_bytes (p.lens + lens_of_line l)
 
 -- ---- rule 14: a map of a buffer that the thread has mapped, and an unmap, peek or poke of one that it hasn't
 

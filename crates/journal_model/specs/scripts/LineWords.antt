@@ -1,8 +1,8 @@
 -- A line by its words: which keyword it has, and each word as what must stand there.
 use Rattle.std.specs.Prelude.{ℕ, Bool, true, false, List, [], ◌∷◌, Option, Some, None, option_map, length, map, bytes_eq, codes, ◌==◌, ◌&&◌, ◌||◌, not, if◌then◌else◌}
 use Rattle.std.specs.List.{list_any}
-use Rattle.ttm_base.specs.declared.BufId.{BufId}
-use Rattle.journal_model.specs.declared.script.Script.{Script}
+use Rattle.journal_model.specs.Types.{BufId, Script}
+use Rattle.journal_model.specs.Limits.{max_align, max_buffer_pages, max_engines, max_line_actors, max_memory_pages, max_priority, max_slots}
 use Rattle.journal_model.specs.declared.line.Line.{Line}
 use Rattle.journal_model.specs.declared.line.Line.TheVariants as line
 use Rattle.journal_model.specs.declared.line.Keyword.{Keyword}
@@ -139,8 +139,8 @@ version_line _ = None
 -- VRAM with its manager
 abbrev pub vram_line : List Text → Option Line
 vram_line (w ∷ kind ∷ size ∷ []) =
-    if bytes_eq kind (codes "range") then Some (line.Vram false (number_in 0 16384 size))
-    else if bytes_eq kind (codes "buddy") then Some (line.Vram true (number_in 0 16384 size))
+    if bytes_eq kind (codes "range") then Some (line.Vram false (number_in 0 max_memory_pages size))
+    else if bytes_eq kind (codes "buddy") then Some (line.Vram true (number_in 0 max_memory_pages size))
     else None
 vram_line _ = None
 
@@ -152,7 +152,7 @@ size_line made high _ = None
 -- a buffer line up to its places
 abbrev pub buffer_head_of : Text → Text → Text → Text → Text → BufferHead
 buffer_head_of name pages prio group align =
-    record { name = name; pages = number_in 1 4096 pages; prio = number_in 0 3 prio; group = group_of group; align = number_in 1 4096 align }
+    record { name = name; pages = number_in 1 max_buffer_pages pages; prio = number_in 0 max_priority prio; group = group_of group; align = number_in 1 max_align align }
 
 -- the fixed words of a buffer line up to its places
 abbrev pub has_head_words : Text → Text → Text → Bool
@@ -169,7 +169,7 @@ two_lists fits head d want e busy =
 abbrev pub list_of_version_two : Bool → BufferHead → Text → Text → Option Line
 list_of_version_two fits head d list = if fits && bytes_eq d (codes "place") then Some (line.Placed head (places_of true list)) else None
 
--- what stands behind the head: two lists in version 1, one in version 2
+-- what comes after the head: `want LIST busy LIST` in version 1, `place LIST` in version 2; `Reading` has the grammar of a list
 abbrev pub lists_line : Bool → Bool → BufferHead → List Text → Option Line
 lists_line two fits head (d ∷ want ∷ e ∷ busy ∷ []) = if two then None else two_lists fits head d want e busy
 lists_line two fits head (d ∷ list ∷ []) = if two then list_of_version_two fits head d list else None
@@ -193,7 +193,7 @@ is_no_actor _ = false
 
 -- a schedule of 1 to 64 actor words
 abbrev pub turn_of_actors : List ActorWord → Option Line
-turn_of_actors actors = if is_between 1 64 (length actors) && not (list_any is_no_actor actors) then Some (line.Turn actors) else None
+turn_of_actors actors = if is_between 1 max_line_actors (length actors) && not (list_any is_no_actor actors) then Some (line.Turn actors) else None
 
 -- a schedule line
 abbrev pub turn_line_of : ℕ → ℕ → List Text → Option Line
@@ -267,12 +267,12 @@ named_line made names _ = None
 -- pages of the space from va on, the first of them a page of a buffer
 abbrev pub vmap_line : List Text → List Text → Option Line
 vmap_line names (w ∷ va ∷ n ∷ b ∷ off ∷ []) =
-    Some (line.Vmap (number_in 0 1048575 va) (number_in 1 4096 n) (known names b) (number_in 0 4095 off))
+    Some (line.Vmap (number_in 0 1048575 va) (number_in 1 max_buffer_pages n) (known names b) (number_in 0 4095 off))
 vmap_line names _ = None
 
 -- pages of the space from va on
 abbrev pub vunmap_line : List Text → Option Line
-vunmap_line (w ∷ va ∷ n ∷ []) = Some (line.Vunmap (number_in 0 1048575 va) (number_in 1 4096 n))
+vunmap_line (w ∷ va ∷ n ∷ []) = Some (line.Vunmap (number_in 0 1048575 va) (number_in 1 max_buffer_pages n))
 vunmap_line _ = None
 
 -- an operation with addresses by its words
@@ -308,10 +308,10 @@ vsubmit_line engines _ = None
 abbrev pub parts_of : Script → Keyword → List Text → Option Line
 parts_of script key.Ttm ws = version_line ws
 parts_of script key.Vram ws = vram_line ws
-parts_of script key.Tt ws = size_line line.Tt 16384 ws
-parts_of script key.Frames ws = size_line line.Frames 16384 ws
-parts_of script key.Swap ws = size_line line.Swap 32768 ws
-parts_of script key.Engines ws = size_line line.Engines 8 ws
+parts_of script key.Tt ws = size_line line.Tt max_memory_pages ws
+parts_of script key.Frames ws = size_line line.Frames max_memory_pages ws
+parts_of script key.Swap ws = size_line line.Swap max_slots ws
+parts_of script key.Engines ws = size_line line.Engines max_engines ws
 parts_of script key.Buffer ws = buffer_line_of (script.version == 2) ws
 parts_of script key.Thread ws = alone line.Thread ws
 parts_of script key.Schedule ws = turn_line_of (length script.threads) script.sizes.engines ws

@@ -1,14 +1,10 @@
 -- Which marks may stand in a script: mappings and address spaces as they are at each line.
 use Rattle.std.specs.Prelude.{ℕ, ◌+◌, Bool, true, false, List, [], ◌∷◌, Option, Some, None, ◌==◌, ◌&&◌, ◌||◌, not, nat_lt, nat_le, filter, map, fold, length, drop, zip}
 use Rattle.std.specs.List.{list_all, list_any}
-use Rattle.ttm_base.specs.declared.BufId.{BufId}
-use Rattle.ttm_base.specs.declared.Op.{Op}
+use Rattle.journal_model.specs.Types.{BufId, Command, Mark, MarkKind, Op, Script}
+use Rattle.journal_model.specs.Limits.{max_buffer_pages, max_job_ops, max_offset, max_shown_bytes, max_thread_lines, space_bytes, space_pages}
 use Rattle.ttm_base.specs.declared.Op.TheVariants as op
-use Rattle.journal_model.specs.declared.script.Script.{Script}
-use Rattle.journal_model.specs.declared.script.Command.{Command}
 use Rattle.journal_model.specs.declared.script.Command.TheVariants as command
-use Rattle.journal_model.specs.declared.script.Mark.{Mark}
-use Rattle.journal_model.specs.declared.script.MarkKind.{MarkKind}
 use Rattle.journal_model.specs.declared.script.MarkKind.TheVariants as mark
 use Rattle.journal_model.specs.declared.space.VOp.{VOp}
 use Rattle.journal_model.specs.declared.space.VOp.TheVariants as vop
@@ -38,7 +34,7 @@ thread_mappings_after d (mark.Vmap va n b off) = record d { regions = regions_af
 thread_mappings_after d (mark.Vunmap va n) = record d { regions = regions_after d.regions (mark.Vunmap va n) }
 thread_mappings_after d (mark.Vsubmit ops) = d
 
--- what the last thread has mapped behind its last line
+-- what the last thread has mapped after its last line
 abbrev pub thread_mappings_at_end : Script → ThreadMappings
 thread_mappings_at_end script = fold thread_mappings_after empty_thread_mappings (map (λ m. m.kind) (marks_of script (length script.threads)))
 
@@ -52,14 +48,14 @@ is_peek_or_poke d _ = false
 
 -- a range of at least a byte in the space
 abbrev pub is_addressed : ℕ → ℕ → Bool
-is_addressed addr len = nat_le addr 4294967295 && is_between 1 16777216 len && nat_le (addr + len) 4294967296
+is_addressed addr len = nat_le addr 4294967295 && is_between 1 max_offset len && nat_le (addr + len) space_bytes
 
 -- an operation with addresses
 abbrev pub is_vop : VOp → Bool
 is_vop (vop.Fill addr len byte) = is_addressed addr len && nat_le byte 255
 is_vop (vop.Copy addr from len) = is_addressed addr len && is_addressed from len
 is_vop (vop.Xor addr from len) = is_addressed addr len && is_addressed from len
-is_vop (vop.Probe addr len) = is_addressed addr len && nat_le len 256
+is_vop (vop.Probe addr len) = is_addressed addr len && nat_le len max_shown_bytes
 
 -- the operations are one
 abbrev pub same_op : Op → Op → Bool
@@ -93,14 +89,14 @@ has_apart_ranges regions _ = true
 -- all its pages are mapped, no operation has a buffer in both its ranges, and the submit is its job by name
 abbrev pub is_vsubmit : ThreadMappings → List VOp → Command → Bool
 is_vsubmit d vs (command.Submit engine ops) =
-    is_between 1 64 (length vs) && list_all is_vop vs && list_all (has_apart_ranges d.regions) vs && is_job_of (job_by_name d.regions vs) ops
+    is_between 1 max_job_ops (length vs) && list_all is_vop vs && list_all (has_apart_ranges d.regions) vs && is_job_of (job_by_name d.regions vs) ops
 is_vsubmit d vs _ = false
 
 -- ---- marks
 
 -- at most 4,096 pages inside the space
 abbrev pub is_page_range : ℕ → ℕ → Bool
-is_page_range va n = nat_le va 1048575 && is_between 1 4096 n && nat_le (va + n) 1048576
+is_page_range va n = nat_le va 1048575 && is_between 1 max_buffer_pages n && nat_le (va + n) space_pages
 
 -- a line of its own
 abbrev pub is_mark : Script → ThreadMappings → MarkKind → Bool
@@ -141,7 +137,7 @@ is_above m k = nat_lt m.thread k.thread || ((m.thread == k.thread) && nat_le m.a
 abbrev pub are_in_order : List Mark → Bool
 are_in_order marks = list_all (λ e. is_above e.0 e.1) (zip marks (drop 1 marks))
 
--- each stands in a thread, at most behind its last command
+-- each stands in a thread, at most after its last command
 abbrev pub is_in_thread : Script → Mark → Bool
 is_in_thread script m =
     is_between 1 (length script.threads) m.thread && nat_le m.after (length (commands_of script m.thread))
@@ -155,7 +151,7 @@ is_line _ = true
 -- commands and marks with lines of their own
 abbrev pub has_few_lines : Script → ℕ → Bool
 has_few_lines script thread =
-    nat_le (length (commands_of script thread) + length (filter (λ m. is_line m.kind) (marks_of script thread))) 4096
+    nat_le (length (commands_of script thread) + length (filter (λ m. is_line m.kind) (marks_of script thread))) max_thread_lines
 
 -- a script of version 1 has no marks
 abbrev pub have_marks : Script → Bool

@@ -1,11 +1,10 @@
 -- What a word says: a number, a name, bytes, a place, an actor.
 use Rattle.std.specs.Prelude.{ℕ, ◌+◌, ◌-◌, ◌*◌, Bool, true, false, List, [], ◌∷◌, Option, Some, None, option_map, length, map, position, bytes_eq, codes, ◌==◌, ◌&&◌, ◌||◌, not, nat_lt, if◌then◌else◌}
 use Rattle.std.specs.List.{list_all, join_with_byte}
-use Rattle.ttm_base.specs.declared.Mem.{Mem}
+use Rattle.journal_model.specs.Types.{BufId, Decl, Mem}
+use Rattle.journal_model.specs.Limits.{max_memory_pages, max_offset}
 use Rattle.ttm_base.specs.declared.Mem.TheVariants.{System, Tt, Vram}
-use Rattle.ttm_base.specs.declared.BufId.{BufId}
 use Rattle.ttm_base.specs.declared.Actor.TheVariants as actor
-use Rattle.journal_model.specs.declared.script.Decl.{Decl}
 use Rattle.journal_model.specs.declared.line.Flags.{Flags}
 use Rattle.journal_model.specs.declared.line.PlaceWord.{PlaceWord}
 use Rattle.journal_model.specs.declared.line.PlaceWord.TheVariants as place_word
@@ -47,7 +46,7 @@ group_of word = if bytes_eq word (codes "-") then Some None else option_map Some
 
 -- an offset or a length
 abbrev pub offset_of : Text → Option ℕ
-offset_of word = number_in 0 16777216 word
+offset_of word = number_in 0 max_offset word
 
 -- an address of a space
 abbrev pub address_of : Text → Option ℕ
@@ -85,6 +84,14 @@ byte_in_hex (c ∷ d ∷ []) = if is_hex c && is_hex d then Some (hex_value c * 
 byte_in_hex _ = None
 
 -- ---- memory types and places
+--
+--   LIST   PLACE , PLACE , ..          with a comma between each two, and no space
+--   PLACE  MEM [@F-L] [+top] [+contig] [+desired | +fallback]
+--   MEM    sys | tt | vram
+--
+-- The reach @F-L is that of tt and vram alone: plain numbers up to 16384, and L is greater than F, or 0 for the end of the memory type; `@0-0`
+-- is taken as no reach. The flags stand in this order, each once at most, and the last two, of which one may stand, are those of version 2.
+-- `place_word_of` cuts a word at each +, then what comes before the first + at each @, and what comes after the first @ at each dash.
 
 -- a memory type
 abbrev pub mem_of : Text → Option Mem
@@ -103,23 +110,23 @@ last_flags_of two topdown contig (w ∷ []) =
     else None
 last_flags_of two topdown contig (w ∷ x ∷ ws) = None
 
--- `contig` or what stands behind it
+-- the flags from `contig` on
 abbrev pub contig_flags_of : Bool → Bool → List Text → Option Flags
 contig_flags_of two topdown [] = last_flags_of two topdown false []
 contig_flags_of two topdown (w ∷ ws) =
     if bytes_eq w (codes "contig") then last_flags_of two topdown true ws else last_flags_of two topdown false (w ∷ ws)
 
--- `top` or what stands behind it
+-- the flags from `top` on
 abbrev pub flags_of : Bool → List Text → Option Flags
 flags_of two [] = contig_flags_of two false []
 flags_of two (w ∷ ws) = if bytes_eq w (codes "top") then contig_flags_of two true ws else contig_flags_of two false (w ∷ ws)
 
--- a place by its parts
+-- a place by its memory type, the ends of its reach and its flags
 abbrev pub flagged : Mem → ℕ → ℕ → Flags → PlaceWord
 flagged mem first last f =
     place_word.Is (record { place = record { mem = mem; first = first; last = last; topdown = f.topdown; contig = f.contig }; desired = f.desired; fallback = f.fallback })
 
--- both numbers of a reach
+-- a place with a reach, by its two numbers; one that is missing isn't plain or is out of its range
 abbrev pub ranged : Mem → Option ℕ → Option ℕ → Flags → PlaceWord
 ranged mem (Some first) (Some last) f =
     if (last == 0 && not (first == 0)) || nat_lt first last then flagged mem first last f else place_word.Malformed
@@ -134,9 +141,9 @@ is_system _ = false
 abbrev pub two_numbers_place : Mem → Text → Text → Flags → PlaceWord
 two_numbers_place mem first last f =
     if is_system mem || (length first == 0) || (length last == 0) then place_word.Malformed
-    else ranged mem (number_in 0 16384 first) (number_in 0 16384 last) f
+    else ranged mem (number_in 0 max_memory_pages first) (number_in 0 max_memory_pages last) f
 
--- what stands behind the @, cut at each dash
+-- the words of the reach, cut at each dash; there are two
 abbrev pub reach_place : Mem → List Text → Flags → PlaceWord
 reach_place mem (first ∷ last ∷ []) f = two_numbers_place mem first last f
 reach_place mem _ f = place_word.Malformed
@@ -147,7 +154,7 @@ based_place (Some mem) None (Some f) = flagged mem 0 0 f
 based_place (Some mem) (Some reach) (Some f) = reach_place mem (cut_at 45 reach) f
 based_place _ _ _ = place_word.Malformed
 
--- what stands behind the first @, by the words behind it
+-- what comes after the first @, by the words after it; a further @ is part of it
 abbrev pub reach_of : List Text → Option Text
 reach_of [] = None
 reach_of (word ∷ words) = Some (join_with_byte 64 (word ∷ words))
@@ -179,14 +186,14 @@ engine_word_of engines word =
     else if is_between 1 engines (read_on 0 word) then engine_word.Is (read_on 0 word)
     else engine_word.Missing
 
--- what stands behind the t of a thread
+-- the number after the t of a thread
 abbrev pub thread_actor : ℕ → Text → ActorWord
 thread_actor threads number =
     if not (is_plain number) then actor_word.BrokenNumber
     else if is_between 1 threads (read_on 0 number) then actor_word.Is (actor.Thread (read_on 0 number))
     else actor_word.Missing
 
--- what stands behind the e of an engine; engine 0 is the one that moves buffers
+-- the number after the e of an engine; engine 0 is the one that moves buffers
 abbrev pub engine_actor : ℕ → Text → ActorWord
 engine_actor engines number =
     if not (is_plain number) then actor_word.BrokenNumber

@@ -1,14 +1,10 @@
 -- Which values have a spelling as a script.
 use Rattle.std.specs.Prelude.{◌≡◌, ℕ, ◌≤◌, Bool, true, false, List, [], ◌∷◌, Option, Some, None, IsTrue, ◌==◌, ◌&&◌, ◌||◌, not, nat_lt, nat_le, sum_by, length, take, drop, if◌then◌else◌}
 use Rattle.std.specs.List.{list_all, list_any}
-use Rattle.ttm_base.specs.declared.Mem.{Mem}
+use Rattle.journal_model.specs.Types.{Actor, Decl, FlaggedPlace, Mem, Place, Script}
+use Rattle.journal_model.specs.Limits.{max_align, max_buffer_pages, max_buffers, max_engines, max_line_actors, max_memory_pages, max_op_bytes, max_places, max_priority, max_script_bytes, max_slots, max_threads}
 use Rattle.ttm_base.specs.declared.Mem.TheVariants.{System, Tt, Vram}
-use Rattle.ttm_base.specs.declared.Place.{Place}
-use Rattle.ttm_base.specs.declared.FlaggedPlace.{FlaggedPlace}
-use Rattle.ttm_base.specs.declared.Actor.{Actor}
 use Rattle.ttm_base.specs.declared.Actor.TheVariants as actor
-use Rattle.journal_model.specs.declared.script.Script.{Script}
-use Rattle.journal_model.specs.declared.script.Decl.{Decl}
 use Rattle.ttm_base.specs.ListWords.{same_numbers}
 use Rattle.ttm_base.specs.Placement.{first_places, forced_places}
 use Rattle.journal_model.specs.scripts.Words.{Text}
@@ -19,8 +15,8 @@ use Rattle.journal_model.specs.scripts.Spelling.{spelling}
 -- the sizes are within their limits
 abbrev pub has_sizes : Script → Bool
 has_sizes script =
-    nat_le script.sizes.vram 16384 && nat_le script.sizes.tt 16384 && nat_le script.sizes.frames 16384
-    && nat_le script.sizes.swap 32768 && nat_le script.sizes.engines 8
+    nat_le script.sizes.vram max_memory_pages && nat_le script.sizes.tt max_memory_pages && nat_le script.sizes.frames max_memory_pages
+    && nat_le script.sizes.swap max_slots && nat_le script.sizes.engines max_engines
 
 -- a lower-case letter
 abbrev pub is_letter : ℕ → Bool
@@ -50,7 +46,7 @@ is_whole_place p = (p.first == 0) && (p.last == 0)
 
 -- a range that isn't empty
 abbrev pub is_ranged_place : Place → Bool
-is_ranged_place p = nat_le p.first 16384 && nat_le p.last 16384 && ((p.last == 0) || nat_lt p.first p.last)
+is_ranged_place p = nat_le p.first max_memory_pages && nat_le p.last max_memory_pages && ((p.last == 0) || nat_lt p.first p.last)
 
 -- in SYSTEM there is no range; flags may stand there and say nothing
 abbrev pub is_place_of : Mem → Place → Bool
@@ -77,7 +73,7 @@ is_old_list list =
 
 -- one to eight places, of which one is tried under pressure
 abbrev pub is_new_list : List FlaggedPlace → Bool
-is_new_list list = is_between 1 8 (length list) && nat_lt 0 (length (forced_places list))
+is_new_list list = is_between 1 max_places (length list) && nat_lt 0 (length (forced_places list))
 
 -- by the script's version
 abbrev pub is_place_list : ℕ → List FlaggedPlace → Bool
@@ -91,7 +87,7 @@ is_group (Some g) = nat_le g 15
 -- a buffer line
 abbrev pub is_decl : ℕ → Decl → Bool
 is_decl version d =
-    is_name d.name && is_between 1 4096 d.pages && nat_le d.prio 3 && is_group d.group && is_between 1 4096 d.align
+    is_name d.name && is_between 1 max_buffer_pages d.pages && nat_le d.prio max_priority && is_group d.group && is_between 1 max_align d.align
     && is_place_list version d.placement.list
 
 -- the script has the actor
@@ -102,7 +98,7 @@ is_actor script actor.Reaper = true
 
 -- a schedule line
 abbrev pub is_turn_line : Script → List Actor → Bool
-is_turn_line script actors = is_between 1 64 (length actors) && list_all (is_actor script) actors
+is_turn_line script actors = is_between 1 max_line_actors (length actors) && list_all (is_actor script) actors
 
 -- ---- the script
 
@@ -110,13 +106,13 @@ is_turn_line script actors = is_between 1 64 (length actors) && list_all (is_act
 abbrev pub is_script : Script → Bool
 is_script script =
     is_between 1 2 script.version && has_sizes script
-    && nat_le (length script.buffers) 256 && list_all (is_decl script.version) script.buffers && has_distinct_names script.buffers
-    && nat_le (length script.threads) 16 && list_all (list_all (is_command script)) script.threads
-    && nat_le (sum_by (sum_by command_len) script.threads) 67108864
+    && nat_le (length script.buffers) max_buffers && list_all (is_decl script.version) script.buffers && has_distinct_names script.buffers
+    && nat_le (length script.threads) max_threads && list_all (list_all (is_command script)) script.threads
+    && nat_le (sum_by (sum_by command_len) script.threads) max_op_bytes
     && list_all (is_turn_line script) script.turns && have_marks script
 
 -- the bytes are those of the script
 pub record IsScript (bytes : Text) (script : Script) : Type 0 where
   pub spelled : bytes ≡ spelling script
   pub fits : IsTrue (is_script script)
-  pub short : length bytes ≤ 1048576
+  pub short : length bytes ≤ max_script_bytes

@@ -1,16 +1,9 @@
 -- The one spelling of a script.
 use Rattle.std.specs.Prelude.{ℕ, ◌+◌, Bool, true, false, List, [], ◌∷◌, ◌++◌, Option, Some, None, ◌==◌, ◌&&◌, not, flat_map, map, decimal, codes, if◌then◌else◌}
 use Rattle.std.specs.List.{enumerate_from, join_with_byte}
-use Rattle.ttm_base.specs.declared.Place.{Place}
-use Rattle.ttm_base.specs.declared.FlaggedPlace.{FlaggedPlace}
-use Rattle.ttm_base.specs.declared.Actor.{Actor}
-use Rattle.ttm_base.specs.declared.Op.{Op}
+use Rattle.journal_model.specs.Types.{Actor, Command, Decl, FlaggedPlace, MarkKind, Op, Place, Script}
 use Rattle.ttm_base.specs.declared.Op.TheVariants as op
-use Rattle.journal_model.specs.declared.script.Script.{Script}
-use Rattle.journal_model.specs.declared.script.Decl.{Decl}
-use Rattle.journal_model.specs.declared.script.Command.{Command}
 use Rattle.journal_model.specs.declared.script.Command.TheVariants as command
-use Rattle.journal_model.specs.declared.script.MarkKind.{MarkKind}
 use Rattle.journal_model.specs.declared.script.MarkKind.TheVariants as mark
 use Rattle.journal_model.specs.declared.space.VOp.{VOp}
 use Rattle.journal_model.specs.declared.space.VOp.TheVariants as vop
@@ -133,7 +126,7 @@ mark_line script (mark.Vsubmit ops) = []
 abbrev pub mark_lines : Script → ℕ → ℕ → Text
 mark_lines script thread n = flat_map (mark_line script) (marks_at script thread n)
 
--- the commands from number n on, each behind the marks above it
+-- the commands from number n on, each after the marks above it
 abbrev pub command_lines : Script → ℕ → ℕ → List Command → Text
 command_lines script thread n [] = mark_lines script thread n
 command_lines script thread n (cmd ∷ commands) =

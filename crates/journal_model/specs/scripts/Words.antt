@@ -2,13 +2,9 @@
 use Rattle.std.specs.Prelude.{ℕ, ◌/◌, ◌%◌, List, [], ◌∷◌, ◌++◌, flat_map, map, decimal, codes}
 use Rattle.std.specs.List.{join_with_byte}
 use Rattle.std.specs.Char.{digit_char}
-use Rattle.ttm_base.specs.declared.Mem.{Mem}
+use Rattle.journal_model.specs.Types.{Actor, BufId, Mem, Script, Span}
 use Rattle.ttm_base.specs.declared.Mem.TheVariants.{System, Tt, Vram}
-use Rattle.ttm_base.specs.declared.Span.{Span}
-use Rattle.ttm_base.specs.declared.BufId.{BufId}
-use Rattle.ttm_base.specs.declared.Actor.{Actor}
 use Rattle.ttm_base.specs.declared.Actor.TheVariants as actor
-use Rattle.journal_model.specs.declared.script.Script.{Script}
 use Rattle.journal_model.specs.rules.Commands.{decl}
 
 -- bytes
@@ -42,7 +38,7 @@ mem_word System = codes "sys"
 mem_word Tt = codes "tt"
 mem_word Vram = codes "vram"
 
--- the first page, and the one behind the last
+-- the first page, and the one after the last
 abbrev pub span_word : Span → Text
 span_word s = decimal s.start ++ codes "-" ++ decimal s.end
 

@@ -1,12 +1,9 @@
 -- How the pages, frames and slots are held, by number.
 use Rattle.std.specs.Prelude.{ℕ, ◌+◌, Bool, true, List, [], ◌∷◌, not, filter, sum_by, length, ◌==◌, ◌&&◌}
-use Rattle.ttm_base.specs.declared.Mem.{Mem}
+use Rattle.journal_model.specs.Types.{Core, Mem, Script, Span}
 use Rattle.ttm_base.specs.declared.Mem.TheVariants.{Tt, Vram}
-use Rattle.ttm_base.specs.declared.Span.{Span}
 use Rattle.ttm_base.specs.ListWords.{count_from}
 use Rattle.ttm_base.specs.Reach.{length_of}
-use Rattle.journal_model.specs.declared.script.Script.{Script}
-use Rattle.journal_model.specs.declared.state.Core.{Core}
 use Rattle.journal_model.specs.rules.State.{target_spans}
 use Rattle.journal_model.specs.rules.Places.{pages_of}
 use Rattle.journal_model.specs.rules.Holds.{live_buffers, spans_in, ghost_spans, held_spans, is_free_page, size_of, live_frames, ghost_frames, held_frames, held_slots, has_number}

@@ -1,7 +1,7 @@
 -- When a job comes after another: later in its context, or since it waits for it (dma_fence's contexts; dma_resv).
 use Rattle.std.specs.Prelude.{◌≡◌, ◌<◌, true, List, Contains}
 use Rattle.std.specs.List.{list_any}
-use Rattle.journal_model.specs.declared.state.Job.{Job}
+use Rattle.journal_model.specs.Types.{Job}
 use Rattle.journal_model.specs.rules.JobNames.{same_job}
 
 -- Of these jobs, j comes after i: i is an earlier job of j's context, or j waits for i, or j comes after a job that comes after i.

@@ -1,18 +1,10 @@
--- The causes of refusals for want of room or frames, and of backoffs, as tests on the states in which the entries were made.
+-- The causes of refusals for lack of room or frames, and of backoffs, as tests on the states in which the entries were made.
 use Rattle.std.specs.Prelude.{ℕ, Bool, true, false, List, [], ◌∷◌, ◌++◌, Option, Some, None, ◌==◌, ◌&&◌, ◌||◌, not, nat_lt, filter, filter_map, find, length, option_map, option_and_then, unwrap_or, slice_get, is_none, is_some, if◌then◌else◌}
 use Rattle.std.specs.List.{list_all, list_any}
-use Rattle.ttm_base.specs.declared.BufId.{BufId}
-use Rattle.ttm_base.specs.declared.Stamp.{Stamp}
-use Rattle.ttm_base.specs.declared.Place.{Place}
-use Rattle.ttm_base.specs.declared.FlaggedPlace.{FlaggedPlace}
+use Rattle.journal_model.specs.Types.{BufId, DryWhy, FlaggedPlace, Kind, Place, Reservation, Script, Stamp, State}
 use Rattle.ttm_base.specs.declared.Deny.TheVariants as deny
-use Rattle.journal_model.specs.declared.script.Script.{Script}
-use Rattle.journal_model.specs.declared.entry.Kind.{Kind}
 use Rattle.journal_model.specs.declared.entry.Kind.TheVariants as kind
 use Rattle.journal_model.specs.declared.entry.Why.TheVariants as why
-use Rattle.journal_model.specs.declared.entry.DryWhy.{DryWhy}
-use Rattle.journal_model.specs.declared.state.State.{State}
-use Rattle.journal_model.specs.declared.state.Reservation.{Reservation}
 use Rattle.ttm_base.specs.ListWords.{count_from, same_numbers}
 use Rattle.ttm_base.specs.Placement.{first_places, forced_places}
 use Rattle.journal_model.specs.rules.State.{reservation, course, has_buffer, same_buffer}
@@ -56,7 +48,7 @@ is_holder g stamp = elim g.holder [ Some holder ↦ holder.0 == stamp.0 | None �
 
 -- ---- of a thread's entries
 
--- what stands behind the last element that passes, or all where none does
+-- what follows the last element that passes, or all where none does
 abbrev pub since_last : {X : Type 0} → (X → Bool) → List X → List X
 since_last test [] = []
 since_last test (x ∷ xs) = if list_any test xs then since_last test xs else if test x then xs else x ∷ xs
@@ -162,7 +154,7 @@ all_went_dry p = same_numbers (filter_map (λ m. dry_of p.b m.entry.kind) p.entr
 abbrev pub all_were_dry : Script → PressedSearch → Bool
 all_were_dry script p = list_all (was_dry script p.thread p.b p.forced) p.entries
 
--- ttm_bo_mem_space has failed for want of room
+-- ttm_bo_mem_space has failed for lack of room
 abbrev pub is_search_over : Script → PressedSearch → Bool
 is_search_over script p = no_first_had_room script p && all_went_dry p && all_were_dry script p
 

@@ -1,13 +1,9 @@
 -- When a journal is complete, told by the journal, and the same told by a state.
 use Rattle.std.specs.Prelude.{ℕ, Bool, true, false, List, ◌==◌, ◌&&◌, count_by, length}
 use Rattle.std.specs.List.{list_all}
-use Rattle.ttm_base.specs.declared.Actor.{Actor}
+use Rattle.journal_model.specs.Types.{Actor, Entry, Kind, Script, State}
 use Rattle.ttm_base.specs.declared.Actor.TheVariants as actor
-use Rattle.journal_model.specs.declared.script.Script.{Script}
-use Rattle.journal_model.specs.declared.entry.Entry.{Entry}
-use Rattle.journal_model.specs.declared.entry.Kind.{Kind}
 use Rattle.journal_model.specs.declared.entry.Kind.TheVariants as kind
-use Rattle.journal_model.specs.declared.state.State.{State}
 use Rattle.ttm_base.specs.ListWords.{count_from}
 use Rattle.journal_model.specs.rules.State.{course}
 use Rattle.journal_model.specs.rules.Commands.{commands_of}

@@ -1,9 +1,6 @@
--- A dead end: a journal that isn't complete and behind which nobody has an entry.
+-- A dead end: a journal that isn't complete and after which nobody has an entry.
 use Rattle.std.specs.Prelude.{◌≡◌, Bool, false, List, is_ok}
-use Rattle.ttm_base.specs.declared.Actor.{Actor}
-use Rattle.journal_model.specs.declared.script.Script.{Script}
-use Rattle.journal_model.specs.declared.entry.Entry.{Entry}
-use Rattle.journal_model.specs.declared.state.State.{State}
+use Rattle.journal_model.specs.Types.{Actor, Entry, Script, State}
 use Rattle.journal_model.specs.rules.Next.{next}
 use Rattle.journal_model.specs.rules.Legal.{state_of}
 use Rattle.journal_model.specs.statements.Complete.{is_complete}

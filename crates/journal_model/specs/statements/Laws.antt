@@ -2,11 +2,8 @@
 -- which cites it by its name here. `MarkLaws` has those on mappings and versions.
 use Rattle.std.specs.Prelude.{◌≡◌, ℕ, ◌≤◌, List, Some, [], IsTrue, filter, flat_map, length}
 use Rattle.std.specs.List.{list_all}
-use Rattle.ttm_base.specs.declared.Op.{Op}
-use Rattle.journal_model.specs.declared.script.Script.{Script}
-use Rattle.journal_model.specs.declared.script.MarkKind.{MarkKind}
+use Rattle.journal_model.specs.Types.{Entry, MarkKind, Op, Script}
 use Rattle.journal_model.specs.declared.space.VOp.{VOp}
-use Rattle.journal_model.specs.declared.entry.Entry.{Entry}
 use Rattle.journal_model.specs.statements.Account.{has_accounts}
 use Rattle.journal_model.specs.rules.Legal.{state_of, IsLegal, made_of}
 use Rattle.journal_model.specs.statements.Complete.{is_complete}
@@ -39,7 +36,7 @@ HasAccounts script journal = IsTrue (has_accounts script (state_of script journa
 abbrev pub LegalHasAccounts : Type 0
 LegalHasAccounts = ForLegal HasAccounts
 
--- dry places, refusals for want of room or frames, and backoffs have their causes
+-- dry places, refusals for lack of room or frames, and backoffs have their causes
 abbrev pub HasCauses : Script → List Entry → Type 0
 HasCauses script journal = IsTrue (have_causes script [] (made_of script journal))
 

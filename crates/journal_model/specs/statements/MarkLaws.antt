@@ -1,8 +1,7 @@
 -- Laws of mappings by the CPU and of versions, as statements. A crate `law_*` that proves one cites it by its name here; the README says
 -- which those are.
 use Rattle.std.specs.Prelude.{◌≡◌, ◌↔◌, ℕ, List, [], Some, Contains, drop, length}
-use Rattle.journal_model.specs.declared.script.Script.{Script}
-use Rattle.journal_model.specs.declared.entry.Entry.{Entry}
+use Rattle.journal_model.specs.Types.{Entry, Script}
 use Rattle.ttm_base.specs.Pages.{Page}
 use Rattle.journal_model.specs.rules.Places.{place_of}
 use Rattle.journal_model.specs.scripts.Words.{Text}

@@ -1,12 +1,7 @@
 -- The search before kernel 6.9, with preferred and busy places. It stands in the law on the two forms of a script alone.
 use Rattle.std.specs.Prelude.{◌≡◌, ℕ, Bool, true, false, List, ◌++◌, Some, None, Ok, map}
-use Rattle.ttm_base.specs.declared.BufId.{BufId}
-use Rattle.ttm_base.specs.declared.Place.{Place}
-use Rattle.ttm_base.specs.declared.FlaggedPlace.{FlaggedPlace}
-use Rattle.journal_model.specs.declared.script.Script.{Script}
-use Rattle.journal_model.specs.declared.state.Course.{Course}
+use Rattle.journal_model.specs.Types.{BufId, Course, FlaggedPlace, Place, Script, State}
 use Rattle.journal_model.specs.declared.entry.Kind.TheVariants as kind
-use Rattle.journal_model.specs.declared.state.State.{State}
 use Rattle.journal_model.specs.rules.Commands.{as_desired, as_fallback}
 use Rattle.journal_model.specs.rules.Search.{Step, step_of_place_search, step_of_forced, first_choice}
 
@@ -21,7 +16,7 @@ step_of_old_place_search script s c b want busy forced dry =
       ]
     ]
 
--- the one list that stands for both: preferred places as desired, and busy places behind them as fallback
+-- the one list that stands for both: preferred places as desired, and busy places after them as fallback
 abbrev pub one_list : (want busy : List Place) → List FlaggedPlace
 one_list want busy = map as_desired want ++ map as_fallback busy
 

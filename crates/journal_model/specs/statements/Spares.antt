@@ -1,20 +1,12 @@
 -- What unfinished jobs name, and which pages of the aperture an entry takes away or gives.
-use Rattle.std.specs.Prelude.{ℕ, Bool, true, List, [], ◌∷◌, ◌++◌, is_some, ◌==◌, ◌&&◌, ◌||◌, not, flat_map, drop, if◌then◌else◌}
+use Rattle.std.specs.Prelude.{ℕ, Bool, List, [], ◌++◌, ◌==◌, ◌&&◌, not, flat_map, drop, if◌then◌else◌}
 use Rattle.std.specs.List.{list_all, list_any}
 use Rattle.ttm_base.specs.declared.Mem.TheVariants.{Tt}
-use Rattle.ttm_base.specs.declared.Packet.{Packet}
-use Rattle.ttm_base.specs.declared.Packet.TheVariants as packet
-use Rattle.ttm_base.specs.declared.PagePlace.{PagePlace}
-use Rattle.ttm_base.specs.declared.PagePlace.TheVariants as place
-use Rattle.journal_model.specs.declared.entry.Kind.{Kind}
+use Rattle.journal_model.specs.Types.{Core, Ghost, Job, Kind, Packet}
 use Rattle.journal_model.specs.declared.entry.Kind.TheVariants as kind
-use Rattle.journal_model.specs.declared.state.Core.{Core}
-use Rattle.journal_model.specs.declared.state.Job.{Job}
-use Rattle.journal_model.specs.declared.state.Ghost.{Ghost}
-use Rattle.ttm_base.specs.Pages.{Aperture}
 use Rattle.ttm_base.specs.Packets.{packet_names}
 use Rattle.journal_model.specs.rules.State.{buffer_in}
-use Rattle.journal_model.specs.rules.Places.{pages_of, aperture}
+use Rattle.journal_model.specs.rules.Places.{pages_of}
 use Rattle.journal_model.specs.rules.Holds.{spans_in}
 use Rattle.journal_model.specs.rules.State.{target_spans}
 
@@ -30,20 +22,20 @@ remaining j = drop j.ran j.packets
 abbrev pub tt_of_ghosts : ℕ → List Ghost → List ℕ
 tt_of_ghosts g ghosts = flat_map (λ h. if h.num == g then pages_of h.tt else []) ghosts
 
--- Unbind, Free without a ghost, Reap
+-- the pages that an entry takes away: those of an Unbind, of a Free without a ghost, and of a Reap
 abbrev pub pages_taken : Core → Kind → List ℕ
 pages_taken c (kind.Unbind b) = pages_of (spans_in Tt (buffer_in c b))
 pages_taken c (kind.Free b g) = if g == 0 then pages_of (spans_in Tt (buffer_in c b)) else []
 pages_taken c (kind.Reap g) = tt_of_ghosts g c.ghosts
 pages_taken c _ = []
 
--- Bind, and a Move into TT
+-- the pages that an entry gives: those of a Bind, and of a Move into TT
 abbrev pub pages_given : Core → Kind → List ℕ
 pages_given c (kind.Bind b) = pages_of (target_spans Tt (buffer_in c b))
 pages_given c (kind.Move b Tt n l) = pages_of (target_spans Tt (buffer_in c b))
 pages_given c _ = []
 
--- the job isn't done, and a packet of it, which has run or not, names the page of the aperture
+-- the job isn't done, and one of its packets names the page of the aperture, be it a packet that has run or not
 abbrev pub job_names : ℕ → Job → Bool
 job_names page j = not j.finished && list_any (packet_names page) j.packets
 
@@ -51,23 +43,6 @@ job_names page j = not j.finished && list_any (packet_names page) j.packets
 abbrev pub are_unnamed : Core → List ℕ → Bool
 are_unnamed c pages = list_all (λ page. not (list_any (job_names page) c.jobs)) pages
 
--- the names in a packet
-abbrev pub places_named : Packet → List PagePlace
-places_named (packet.Fill to off len byte) = to ∷ []
-places_named (packet.Copy to toff from foff len) = to ∷ from ∷ []
-places_named (packet.Xor to toff from foff len) = to ∷ from ∷ []
-places_named (packet.Probe from off len) = from ∷ []
-
--- an aperture page is mapped
-abbrev pub is_mapped_name : Aperture → PagePlace → Bool
-is_mapped_name aper (place.Aper p) = is_some (aper p)
-is_mapped_name aper (place.Vram p) = true
-is_mapped_name aper (place.Frame f) = true
-
--- an unfinished job names mapped pages alone
-abbrev pub names_mapped : Core → Job → Bool
-names_mapped c j = j.finished || list_all (is_mapped_name (aperture c)) (flat_map places_named (remaining j))
-
--- what the waits imply of each legal entry: no job is at work on an aperture page that it takes away or gives
+-- what the waits imply of each legal entry: no unfinished job names a page of the aperture that the entry takes away or gives
 abbrev pub spares_jobs : Core → Kind → Bool
 spares_jobs c k = are_unnamed c (pages_taken c k ++ pages_given c k)

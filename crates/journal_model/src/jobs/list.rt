@@ -12,28 +12,28 @@ use crate::state::Job;
 use std::alloc::Global;
 use ttm_base::{ItemList, JobId, NoMemory};
 
-/// The jobs are one.
+/// Returns whether `i` and `j` are the same job.
 pub fn same_job(i: JobId, j: JobId) -> bool
     ensures { result ≡ waits.same_job i j }
 {
     i.ctx == j.ctx && i.num == j.num
 }
 
-/// One of these jobs has the name.
+/// Returns whether one of `jobs` is named `id`.
 fn is_among(jobs: &[Job], id: JobId) -> bool
     ensures { result ≡ list_any (λ j. waits.same_job id j.id) jobs.now }
 {
     jobs.iter().any(|job| same_job(id, job.id))
 }
 
-/// The first of these jobs that has the name.
+/// Returns the first of `jobs` that is named `id`, or `None` if none is.
 fn first_named(jobs: &[Job], id: JobId) -> Option<&Job>
     ensures { option_copied result ≡ find (λ j. waits.same_job id j.id) jobs.now }
 {
     jobs.iter().find(|job| same_job(id, job.id))
 }
 
-/// Marks a job as done, if it has the name.
+/// Marks `job` as done, if it is named `id`.
 fn finish_named(job: &mut Job, id: JobId)
     ensures { job.new ≡ (if waits.same_job id job.old.id then record job.old { finished = true } else job.old) }
 {
@@ -42,7 +42,7 @@ fn finish_named(job: &mut Job, id: JobId)
     }
 }
 
-/// Marks a job as done, among those between two positions.
+/// Marks the job `id` as done, among those from `start` to `end`.
 fn finish_between(jobs: &mut ItemList<Job>, start: usize, end: usize, id: JobId)
     requires order { start ≤ end }
     requires within { end ≤ length jobs.old }
@@ -55,7 +55,7 @@ fn finish_between(jobs: &mut ItemList<Job>, start: usize, end: usize, id: JobId)
     }
 }
 
-/// Counts one more packet that has run, if the job has the name.
+/// Counts one more packet of `job` as run, if it is named `id`.
 fn count_named(job: &mut Job, id: JobId)
     requires { IsTrue (has_packets_left id job.old) }
     ensures { job.new ≡ (if waits.same_job id job.old.id then record job.old { ran = job.old.ran + 1 } else job.old) }
@@ -65,7 +65,7 @@ fn count_named(job: &mut Job, id: JobId)
     }
 }
 
-/// Counts one more packet of a job, among those between two positions.
+/// Counts one more packet of the job `id`, among those from `start` to `end`.
 fn count_between(jobs: &mut ItemList<Job>, start: usize, end: usize, id: JobId)
     requires order { start ≤ end }
     requires within { end ≤ length jobs.old }
@@ -79,7 +79,7 @@ fn count_between(jobs: &mut ItemList<Job>, start: usize, end: usize, id: JobId)
     }
 }
 
-/// The job at a position can be closed: it is done, and no later job has its name.
+/// Returns whether the job at `at` can be closed: it is done, and no later job has its name.
 fn can_close(jobs: &[Job], row: JobRun, at: usize) -> bool
     requires within { at + 1 ≤ length jobs.now }
     requires row { IsRow jobs.now row }
@@ -90,7 +90,7 @@ fn can_close(jobs: &[Job], row: JobRun, at: usize) -> bool
     job.finished && !is_among(&jobs[at + 1..end], job.id)
 }
 
-/// How many jobs are closed, from those on that were.
+/// Counts the jobs that are closed. Those before `start` were.
 fn closed_from(jobs: &[Job], row: JobRun, start: usize) -> usize
     requires split { IsSplit jobs.now start }
     requires row { IsRow jobs.now row }
@@ -103,7 +103,7 @@ fn closed_from(jobs: &[Job], row: JobRun, start: usize) -> usize
     count
 }
 
-/// The job's number is greater than the greatest of its context.
+/// Returns whether the number of `id` is greater than the greatest of its context.
 fn is_past(greatest: &[u64; CONTEXTS], id: JobId) -> bool
     ensures { result ≡ is_past greatest.now id }
 {
@@ -111,7 +111,7 @@ fn is_past(greatest: &[u64; CONTEXTS], id: JobId) -> bool
     at < CONTEXTS && greatest[at] < id.num
 }
 
-/// Makes the number of a job the greatest of its context, unless there is a greater one.
+/// Makes the number of `id` the greatest of its context, unless there is a greater one.
 fn raise(greatest: &mut [u64; CONTEXTS], id: JobId)
     ensures new { is_bounded greatest.new id ≡ true }
     ensures others { (i : JobId) → is_bounded greatest.old i ≡ true → is_bounded greatest.new i ≡ true }
@@ -122,7 +122,7 @@ fn raise(greatest: &mut [u64; CONTEXTS], id: JobId)
     }
 }
 
-/// How many jobs stay closed when one with this name is to come: none, if a closed one has it.
+/// Counts the jobs that stay closed when a job named `id` is to come: none, if a closed one has the name.
 fn closed_apart(jobs: &[Job], closed: usize, greatest: &[u64; CONTEXTS], id: JobId) -> usize
     requires split { IsSplit jobs.now closed }
     requires bounded { AreBounded greatest.now jobs.now }
@@ -138,21 +138,21 @@ fn closed_apart(jobs: &[Job], closed: usize, greatest: &[u64; CONTEXTS], id: Job
     }
 }
 
-/// The job is another, or one more packet of it can be counted.
+/// Returns whether `job` isn't named `id` or one more packet of it can be counted.
 fn has_packets_left(job: &Job, id: JobId) -> bool
     ensures { result ≡ has_packets_left id job.now }
 {
     !same_job(id, job.id) || job.ran < u32::MAX
 }
 
-/// Each of these jobs is another, or one more packet of it can be counted.
+/// Returns whether for each of `jobs` it isn't named `id` or one more packet of it can be counted.
 fn have_packets_left(jobs: &[Job], id: JobId) -> bool
     ensures { result ≡ list_all (has_packets_left id) jobs.now }
 {
     jobs.iter().all(|job| has_packets_left(job, id))
 }
 
-/// How many jobs stay closed when the last one is to go: none, if it is closed.
+/// Counts the jobs that stay closed when the last one is to go: none, if it is closed.
 fn closed_before(jobs: &[Job], closed: usize) -> usize
     requires { IsSplit jobs.now closed }
     ensures split { IsSplit jobs.now result }
@@ -161,7 +161,8 @@ fn closed_before(jobs: &[Job], closed: usize) -> usize
     if closed < jobs.len() { closed } else { 0 }
 }
 
-/// From which job on one of this name is to be changed: from the first pending one, if one of these has it.
+/// Returns the position from which on jobs named `id` are to be changed: that of the first pending one, if one of these has the name, else
+/// 0.
 fn start_of(jobs: &[Job], closed: usize, id: JobId) -> usize
     requires { IsSplit jobs.now closed }
     ensures within { result ≤ length jobs.now }
@@ -175,7 +176,7 @@ fn start_of(jobs: &[Job], closed: usize, id: JobId) -> usize
 }
 
 impl Jobs {
-    /// No jobs.
+    /// Makes an empty list of jobs.
     pub fn new(alloc: Global) -> Jobs
         ensures { result ≡ [] }
     {
@@ -187,28 +188,28 @@ impl Jobs {
         }
     }
 
-    /// All jobs.
+    /// Returns all jobs.
     pub fn items(&self) -> &[Job]
         ensures { result.now ≡ self.now }
     {
         self.all.items()
     }
 
-    /// The last jobs, from the first that isn't done or shares its name with a later one.
+    /// Returns the last jobs, from the first that isn't done or shares its name with a later one.
     pub fn pending(&self) -> &[Job]
         ensures { ArePending self.now result.now }
     {
         &self.all.items()[self.closed..]
     }
 
-    /// The last jobs, as far as none of them is done and their numbers follow one another.
+    /// Returns the last jobs, as far as none of them is done and their numbers follow one another.
     pub fn row(&self) -> JobRun
         ensures { IsTrue (list_all (λ i. list_any (λ j. waits.same_job i j.id && not j.finished) self.now) (jobs_of_run result)) }
     {
         self.row
     }
 
-    /// The first job of this name.
+    /// Returns the first job named `id`, or `None` if there is none.
     pub fn named(&self, id: JobId) -> Option<&Job>
         ensures { option_copied result ≡ find (λ j. waits.same_job id j.id) self.now }
     {
@@ -219,11 +220,11 @@ impl Jobs {
         }
     }
 
-    /// Puts a job at the end.
+    /// Adds `job` at the end.
     ///
     /// # Errors
     ///
-    /// Want of memory; nothing is changed.
+    /// Lack of memory; nothing is changed.
     pub fn push(&mut self, job: Job) -> Result<(), NoMemory>
         ensures ok { OnOk result (self.new ≡ self.old ++ job ∷ []) }
         ensures err { OnErr result (self.new ≡ self.old) }
@@ -237,7 +238,7 @@ impl Jobs {
         Ok(())
     }
 
-    /// Takes the last job out, if there is one.
+    /// Removes the last job, if there is one.
     pub fn drop_last(&mut self)
         ensures { self.new ≡ take (length self.old - 1) self.old }
     {
@@ -249,7 +250,7 @@ impl Jobs {
         }
     }
 
-    /// The job is done.
+    /// Marks the job `id` as done.
     pub fn finish(&mut self, id: JobId)
         ensures { self.new ≡ changed_job (λ j. record j { finished = true }) id self.old }
     {
@@ -259,7 +260,7 @@ impl Jobs {
         self.closed = closed_from(self.all.items(), self.row, self.closed);
     }
 
-    /// One more packet of the job can be counted.
+    /// Returns whether one more packet of the job `id` can be counted.
     pub fn can_count(&self, id: JobId) -> bool
         ensures { result ≡ list_all (has_packets_left id) self.now }
     {
@@ -268,7 +269,7 @@ impl Jobs {
         have_packets_left(&self.all.items()[start..end], id)
     }
 
-    /// One more packet of the job has run.
+    /// Counts one more packet of the job `id` as run.
     pub fn count_packet(&mut self, id: JobId)
         requires { IsTrue (list_all (has_packets_left id) self.old) }
         ensures { self.new ≡ changed_job (λ j. record j { ran = j.ran + 1 }) id self.old }

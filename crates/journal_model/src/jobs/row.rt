@@ -10,14 +10,14 @@ use crate::job_ids::{JobRun, joined};
 use crate::state::Job;
 use ttm_base::JobId;
 
-/// No jobs.
+/// The row without jobs.
 pub const NO_ROW: JobRun = JobRun {
     ctx: 0,
     first: 0,
     count: 0,
 };
 
-/// How many of the run's jobs stand up to the one of this name: none, if it is none of them.
+/// Counts the jobs of `row` up to the one named `id`: none, if it is none of them.
 fn count_up_to(row: JobRun, id: JobId) -> u64
     ensures within { result ≤ row.count }
     ensures apart { is_in id (behind result row) ≡ false }
@@ -29,7 +29,7 @@ fn count_up_to(row: JobRun, id: JobId) -> u64
     }
 }
 
-/// The row once a job that isn't done has come behind it.
+/// Returns the row once the job `id`, which isn't done, has come after it.
 fn row_with(row: JobRun, id: JobId) -> JobRun
     ensures { (jobs : List Job) (job : Job) → job.id ≡ id → job.finished ≡ false → IsRow jobs row → IsRow (jobs ++ job ∷ []) result }
 {
@@ -44,7 +44,7 @@ fn row_with(row: JobRun, id: JobId) -> JobRun
     }
 }
 
-/// The row once a job has come behind it.
+/// Returns the row once `job` has come after it.
 pub fn row_behind(row: JobRun, job: &Job) -> JobRun
     ensures { (jobs : List Job) → IsRow jobs row → IsRow (jobs ++ job.now ∷ []) result }
 {
@@ -55,7 +55,7 @@ pub fn row_behind(row: JobRun, job: &Job) -> JobRun
     }
 }
 
-/// The row once a job is done: those behind it.
+/// Returns the row once the job `id` is done: the jobs after it.
 #[tactic(auto, using(crate::proofs::RowLaws::no_row))]
 pub fn row_after(row: JobRun, id: JobId) -> JobRun
     requires { IsTrue (fits row) }
@@ -72,7 +72,7 @@ pub fn row_after(row: JobRun, id: JobId) -> JobRun
     }
 }
 
-/// Where the jobs end that can have a name, but for those before a start: behind them none has it.
+/// Returns where the jobs end that can be named `id`, but at least `start`: after them none has the name.
 #[tactic(auto, using(crate::proofs::RowLaws::row_within))]
 pub fn end_of(jobs: &[Job], start: usize, row: JobRun, id: JobId) -> usize
     requires within { start ≤ length jobs.now }

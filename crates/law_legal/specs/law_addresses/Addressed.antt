@@ -1,4 +1,4 @@
--- What a job means that is written with addresses: they, through the address space of its thread at its line.
+-- What a job means that is written with addresses: its addresses, through the address space of its thread at its line.
 use Rattle.std.specs.Prelude.{◌≡◌, ℕ, List, Some, IsTrue, filter, flat_map, map, slice_get, take}
 use Rattle.ttm_base.specs.declared.Op.{Op}
 use Rattle.journal_model.specs.declared.script.Script.{Script}
@@ -34,12 +34,12 @@ pub record SubmitsAddresses (script : Script) (thread after : ℕ) (space : Spac
   pub submit : slice_get (commands_of script thread) after ≡ Some (command.Submit engine ops)
   pub means : MeansAddresses space vs ops
 
--- each job that is written with addresses is a submit that means them, through the space of its thread at its line
+-- each job that is written with addresses is a submit that means these addresses, through the space of its thread at its line
 abbrev pub JobsMeanAddresses : Script → Type 0
 JobsMeanAddresses script =
     (thread place : ℕ) (m : Mark) (vs : List VOp) → slice_get (marks_of script thread) place ≡ Some m → m.kind ≡ mark.Vsubmit vs →
     SubmitsAddresses script thread m.after (space_of (requests_above script thread place)) vs
 
--- in each script
+-- in each script the jobs that are written with addresses mean them
 abbrev pub JobsMeanTheirAddresses : Type 0
 JobsMeanTheirAddresses = (script : Script) → IsTrue (is_script script) → JobsMeanAddresses script

@@ -28,7 +28,7 @@ kinds_in (Asks ways c) = ways
 
 -- ---- marks with their places
 
--- a mark after so many commands of a thread
+-- a mark after n commands of a thread
 abbrev pub mark_at : ℕ → ℕ → MarkKind → Mark
 mark_at thread n kind = record { thread = thread; after = n; kind = kind }
 
@@ -38,7 +38,7 @@ marks_in thread n [] = []
 marks_in thread n (Alone m ∷ items) = mark_at thread n m ∷ marks_in thread n items
 marks_in thread n (Asks ways c ∷ items) = map (mark_at thread n) ways ++ marks_in thread (n + 1) items
 
--- the marks of all threads from that number on
+-- the marks of all threads from the thread of this number on
 abbrev pub numbered : ℕ → List (List Item) → List Mark
 numbered thread [] = []
 numbered thread (items ∷ lists) = marks_in thread 0 items ++ numbered (thread + 1) lists
@@ -54,7 +54,7 @@ with_items script lists = record script { threads = map commands_in lists; marks
 
 -- ---- the text
 
--- a command as these marks say that it is written
+-- a command in the way in which these marks say that it is written
 abbrev pub written : Script → List MarkKind → Command → Text
 written script ways c =
     line (elim (slice_get (filter_map addressed ways) 0) [
@@ -77,11 +77,11 @@ items_text script items = line (codes "thread" ∷ []) ++ flat_map (item_text sc
 abbrev pub thread_mappings_behind : ThreadMappings → Item → ThreadMappings
 thread_mappings_behind d item = fold thread_mappings_after d (kinds_in item)
 
--- after all its lines
+-- what the thread has mapped after all its lines
 abbrev pub thread_mappings_of : List Item → ThreadMappings
 thread_mappings_of items = fold thread_mappings_behind empty_thread_mappings items
 
--- the line may stand where the thread has so much mapped; a script of version 1 has no marks
+-- the line may stand where the thread has this mapped; a script of version 1 has no marks
 abbrev pub item_fits : Script → ThreadMappings → Item → Bool
 item_fits script d (Alone m) = (script.version == 2) && is_mark script d m
 item_fits script d (Asks [] c) = true

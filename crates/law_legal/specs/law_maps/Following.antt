@@ -28,13 +28,13 @@ areas_behind (kind.Unbind b) areas = map (without_buffer b) areas
 areas_behind (kind.SwapOut b page k) areas = map (without_page b page) areas
 areas_behind _ areas = areas
 
--- an entry that isn't an answer
+-- areas that follow a mapping still do after one more entry that isn't an answer, once the call that it asks for is done
 abbrev pub EntriesGoWithTheirPages : Type 0
 EntriesGoWithTheirPages =
     (script : Script) (made : List Made) (e : Made) (m : Mapping) (areas : List Area) →
     is_answer e.entry.kind ≡ false → Follow script made areas m → Follow script (made ++ e ∷ []) (areas_behind e.entry.kind areas) m
 
--- a mapping that has ended
+-- once a mapping has ended and was unmapped, the areas follow it: it has no entries
 abbrev pub EntriesGoWithTheirMapping : Type 0
 EntriesGoWithTheirMapping =
     (script : Script) (made : List Made) (m : Mapping) (areas : List Area) →

@@ -1,4 +1,4 @@
--- The laws that make the spelling of a script and the first fault of its bytes one story.
+-- Laws on the spelling of a script and the first fault of its bytes: they agree.
 use Rattle.std.specs.Prelude.{◌≡◌, ◌↔◌, None, Ok}
 use Rattle.journal_model.specs.declared.script.Script.{Script}
 use Rattle.journal_model.specs.scripts.Words.{Text}

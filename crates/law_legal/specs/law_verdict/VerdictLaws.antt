@@ -14,7 +14,7 @@ abbrev pub AcceptedIsNotRejected : Type 0
 AcceptedIsNotRejected =
     (bytes text : Text) (script : Script) (entry rule : ℕ) → IsScript bytes script → IsAccepted script text → IsRejected script text entry rule → ⊥
 
--- what is rejected is so at one entry, by one rule
+-- what is rejected is rejected at one entry, by one rule
 abbrev pub RejectedOnce : Type 0
 RejectedOnce =
     (script : Script) (text : Text) (entry rule other_entry other_rule : ℕ) → IsTrue (is_script script) →

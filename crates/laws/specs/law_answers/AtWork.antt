@@ -8,7 +8,7 @@ use Rattle.journal_model.specs.rules.State.{buffer, reservation, course}
 use Rattle.journal_model.specs.rules.Ready.{has_some_target}
 use Rattle.laws.specs.law_sound.Sound.{Has}
 
--- the buffer's holder is the stamp of a thread that has it, as a named one or as a victim
+-- the buffer's holder is the stamp of a thread that holds it, as a named one or as a victim
 pub record IsHeld (s : State) (b : BufId) : Type 0 where
   pub stamp : Stamp
   pub holder : (reservation s b).holder ≡ Some stamp
@@ -16,7 +16,7 @@ pub record IsHeld (s : State) (b : BufId) : Type 0 where
   pub by : (course s thread).stamp ≡ Some stamp
   pub has : Has s thread b
 
--- every job has a packet, at most two victims are caught, and a target stands at a held buffer alone
+-- every job has a packet, at most two victims are caught, and only a held buffer has a target
 pub record AreFew (s : State) : Type 0 where
   pub packets : (i : ℕ) (j : Job) → slice_get s.core.jobs i ≡ Some j → 0 < length j.packets
   pub victims : (t : ℕ) → length (course s t).caught ≤ 2

@@ -7,14 +7,14 @@ use Rattle.journal_model.specs.rules.Commands.{commands_of, command_at_work}
 use Rattle.journal_model.specs.statements.Complete.{is_answer, is_by_thread, answers_of, is_complete}
 use Rattle.journal_model.specs.rules.Legal.{state_of}
 
--- the entry at a place of the journal is a result or refusal of the thread, after so many others
+-- the entry at place i of the journal is a result or refusal of the thread, after n others
 pub record AnswersAt (journal : List Entry) (t n i : ℕ) : Type 0 where
   pub entry : Entry
   pub here : slice_get journal i ≡ Some entry
   pub answers : (is_by_thread t entry.who && is_answer entry.kind) ≡ true
   pub number : answers_of t (take i journal) ≡ n
 
--- the command with the number of the answer, at which the thread is in the state after the entries before it
+-- the answer at place i has the number n of the command at which the thread is in the state after the entries before it
 pub record IsCommandOf (script : Script) (journal : List Entry) (t n i : ℕ) : Type 0 where
   pub command : Command
   pub numbered : slice_get (commands_of script t) n ≡ Some command

@@ -20,7 +20,7 @@ pub record HasBufferAtWork (script : Script) (s : State) (t : ℕ) : Type 0 wher
   pub b : BufId
   pub first : first_unready script s command ≡ Some b
 
--- at each refusal for lack of space or pages, in the state after the entries before it
+-- at each refusal for lack of space or pages, the thread's command has a buffer at work in the state after the entries before it
 abbrev pub RefusalsHaveBuffers : Script → List Entry → Type 0
 RefusalsHaveBuffers script journal =
     (i t : ℕ) (d : Deny) → (d ≡ deny.NoSpace) ⊎ (d ≡ deny.NoPages) →

@@ -3,7 +3,7 @@ use Rattle.std.specs.Prelude.{ℕ, ◌<◌, ◌^◌}
 use Rattle.journal_model.specs.declared.state.State.{State}
 use Rattle.laws.specs.law_state.GoodState.{last_number}
 
--- each has a next number that fits
+-- each counter has a next number that fits
 pub record AreCounted (s : State) : Type 0 where
   pub stamps : s.last_stamp < 2 ^ 63
   pub ghosts : s.last_ghost < 2 ^ 63

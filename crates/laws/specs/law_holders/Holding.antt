@@ -1,4 +1,4 @@
--- Who holds which page of VRAM, frame or slot: buffers by the places of their pages, targets, and ghosts.
+-- The holder of each page of VRAM, frame or slot: buffers by the places of their pages, targets, and ghosts.
 use Rattle.std.specs.Prelude.{◌≡◌, ℕ, Bool, true, false, Some, slice_get}
 use Rattle.ttm_base.specs.declared.Mem.{Mem}
 use Rattle.ttm_base.specs.declared.Mem.TheVariants as mem
@@ -54,7 +54,7 @@ Holds c x (Kept b k) = kept_in (buffer_at c b).mem (buffer_at c b) k ≡ x
 Holds c x (Target b k) = target_at (buffer_at c b) k ≡ x
 Holds c x (Ghost n) = (i : ℕ) × (g : ghosts.Ghost) × (slice_get c.ghosts i ≡ Some g) × (g.num ≡ n) × (in_ghost x g ≡ true)
 
--- the owner of a page that nobody holds
+-- the owner of a page that isn't held
 abbrev pub unheld : Page → Owner
 unheld (Vram n) = Free
 unheld _ = Idle

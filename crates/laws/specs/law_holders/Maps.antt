@@ -1,4 +1,4 @@
--- Which frame each page of TT is mapped to, as buffers and ghosts tell it.
+-- The frame to which each page of TT is mapped, as buffers and ghosts tell it.
 use Rattle.std.specs.Prelude.{◌≡◌, ℕ, Some, slice_get, ◌⊎◌}
 use Rattle.ttm_base.specs.declared.BufId.{BufId}
 use Rattle.ttm_base.specs.declared.Mem.TheVariants.{Tt}

@@ -7,11 +7,11 @@ use Rattle.journal_model.specs.declared.state.Job.{Job}
 abbrev pub jobs_of : ℕ → List Job → List Job
 jobs_of ctx jobs = filter (λ j. j.id.ctx == ctx) jobs
 
--- those that aren't done: the head of the context first
+-- the jobs of a context that aren't done: the head of the context first
 abbrev pub unfinished_of : ℕ → List Job → List Job
 unfinished_of ctx jobs = filter (λ j. (j.id.ctx == ctx) && not j.finished) jobs
 
--- how many are done
+-- the number of jobs of a context that are done
 abbrev pub done_of : ℕ → List Job → ℕ
 done_of ctx jobs = count_by (λ j. (j.id.ctx == ctx) && j.finished) jobs
 

@@ -1,4 +1,4 @@
--- What stands on the twelve lists of eviction (ttm_resource_manager's lru lists, ttm_lru_bulk_move).
+-- The buffers that stand on the twelve lists of eviction (ttm_resource_manager's lru lists, ttm_lru_bulk_move).
 use Rattle.std.specs.Prelude.{◌≡◌, ℕ, Bool, true, false, List, [], ◌∷◌, ◌++◌, Some, ◌&&◌, not, length, slice_get}
 use Rattle.std.specs.List.{list_any, list_all}
 use Rattle.ttm_base.specs.declared.BufId.{BufId}
@@ -20,7 +20,7 @@ pub record BelongsOn (script : Script) (s : State) (i : ℕ) (b : BufId) : Type 
   pub loose : (reservation s b).pins ≡ 0
   pub number : i ≡ list_number buffer.mem (decl script b).prio
 
--- no buffer stands twice
+-- no buffer stands on the list twice
 abbrev pub stand_once : List BufId → Bool
 stand_once [] = true
 stand_once (b ∷ bs) = not (has_buffer bs b) && stand_once bs
@@ -35,8 +35,8 @@ pub record SideBySide (member : BufId → Bool) (l : List BufId) : Type 0 where
   pub all_among : list_all member members ≡ true
   pub none_behind : list_any member behind ≡ false
 
--- there are twelve lists; each live buffer without pins is on its own, nothing else is on any and nothing twice, and groups
--- stand together
+-- there are twelve lists; each live buffer without pins is on its own, no other buffer is on any and none twice, and the members of a group
+-- stand side by side
 pub record GoodLists (script : Script) (s : State) : Type 0 where
   pub twelve : length s.lists ≡ 12
   pub listed : (b : BufId) (x : Buffer) → live_in s.core.buffers b ≡ Some x → (reservation s b).pins ≡ 0 → IsOn s (list_number x.mem (decl script b).prio) b

@@ -33,7 +33,7 @@ pub record IsFirst (test : BufId → Bool) (b : BufId) (l : List BufId) : Type 0
   pub passes : test b ≡ true
   pub none_before : list_any test before ≡ false
 
--- the first evictable of the four lists of the place's memory type, priority 0 first, where the forced place at work of the
+-- the victim is the first evictable of the four lists of the place's memory type, priority 0 first, where the forced place at work of the
 -- thread's search has no choice
 pub record IsEvicted (script : Script) (s : State) (t : ℕ) (v : BufId) (w : Why) : Type 0 where
   pub cmd : Command
@@ -47,15 +47,15 @@ pub record IsEvicted (script : Script) (s : State) (t : ℕ) (v : BufId) (w : Wh
   pub reason : w ≡ why_of place.mem
   pub first : IsFirst (is_evictable script s (course s t).skips place) v (in_order s place.mem)
 
--- the first with a frame that is neither pinned nor held, in SYSTEM and then in TT, where the thread fills a buffer and no frame
--- is free
+-- the victim is the first with a frame that is neither pinned nor held, in SYSTEM and then in TT, where the thread fills a buffer and no
+-- frame is free
 pub record IsSwapped (script : Script) (s : State) (t : ℕ) (v : BufId) : Type 0 where
   pub b : BufId
   pub filling : task_of script s t ≡ task.Fill b
   pub full : free_frame script s.core ≡ None
   pub first : IsFirst (λ b. is_loose (reservation s b) && has_frame (buffer s b)) v (in_order s System ++ in_order s Tt)
 
--- by what the victim is caught for
+-- which victim an entry names, by what the victim is caught for
 abbrev pub IsNamedVictim : Script → State → ℕ → BufId → Why → Type 0
 IsNamedVictim script s t v why.Vram = IsEvicted script s t v why.Vram
 IsNamedVictim script s t v why.Tt = IsEvicted script s t v why.Tt

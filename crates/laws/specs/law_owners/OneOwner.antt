@@ -13,7 +13,7 @@ pub record AreOwned (size : ℕ) (held : List ℕ) : Type 0 where
   pub distinct : are_distinct held ≡ true
   pub within : list_all (λ n. nat_lt n size) held ≡ true
 
--- of the pages of buffers, targets and ghosts; of frames and slots in tables and ghosts
+-- no page of buffers, targets and ghosts is held twice or past its size, nor is a frame or slot of tables and ghosts
 pub record HaveOneOwner (script : Script) (c : Core) : Type 0 where
   pub vram : AreOwned script.sizes.vram (pages_of (held_spans Vram c))
   pub tt : AreOwned script.sizes.tt (pages_of (held_spans Tt c))

@@ -94,7 +94,7 @@ pub record Steady (script : Script) (t : ℕ) (c : Course) : Type 0 where
   pub unfailed : (b : BufId) → is_caught c b ≡ true → c.fail ≡ None
   pub finished : c.made ≡ true → c.caught ≡ []
 
--- who has a live buffer is told by its holder
+-- the holder of a live buffer tells which thread holds it
 pub record Owned (script : Script) (s : State) : Type 0 where
   pub courses : length s.courses ≡ length script.threads
   pub reservations : length s.reservations ≡ length s.core.buffers
@@ -148,7 +148,7 @@ pub data Carried (fits : Mem → Type 0) (x : Buffer) : Type 0 where
 abbrev pub Fits : Script → Course → Command → BufId → Buffer → Mem → Type 0
 Fits script c cmd b x mem = c.fail ≡ None → meets script cmd b (at_target mem x) ≡ true
 
--- the command asks where its buffers stand
+-- the command tells where its buffers must stand
 abbrev pub asks : Command → Bool
 asks (command.Submit engine ops) = true
 asks (command.Find b) = true

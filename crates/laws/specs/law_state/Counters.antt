@@ -3,7 +3,7 @@ use Rattle.std.specs.Prelude.{ℕ, ◌≤◌}
 use Rattle.journal_model.specs.declared.state.State.{State}
 use Rattle.laws.specs.law_state.GoodState.{last_number}
 
--- no counter is above the number
+-- no counter is above n
 pub record Below (n : ℕ) (s : State) : Type 0 where
   pub stamps : s.last_stamp ≤ n
   pub ghosts : s.last_ghost ≤ n

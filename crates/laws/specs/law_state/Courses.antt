@@ -21,7 +21,7 @@ makes _ = false
 abbrev pub HaveFewPins : List Reservation → Type 0
 HaveFewPins reservations = (b : BufId) → (reservation_in reservations b).pins ≤ 255
 
--- and only a command that makes something is made
+-- no buffer has more pins than can be counted, and only a command that makes something is made
 pub record GoodCourses (script : Script) (s : State) : Type 0 where
   pub pins : HaveFewPins s.reservations
   pub makes : (t : ℕ) (cmd : Command) → slice_get (commands_of script t) (course s t).answered ≡ Some cmd → (course s t).made ≡ true → makes cmd ≡ true

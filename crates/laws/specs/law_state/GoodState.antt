@@ -9,12 +9,12 @@ use Rattle.journal_model.specs.rules.State.{live_in}
 use Rattle.journal_model.specs.rules.Commands.{decl}
 use Rattle.journal_model.specs.rules.Waits.{same_job}
 
--- as many pages as declared
+-- the buffer, if it is live, has as many pages as declared
 abbrev pub HasPages : Script → BufId → Option Buffer → Type 0
 HasPages script b None = Unit {0}
 HasPages script b (Some x) = length x.table ≡ (decl script b).pages
 
--- of each live buffer
+-- each live buffer has as many pages as declared
 abbrev pub HaveTables : Script → List (Option Buffer) → Type 0
 HaveTables script buffers = (b : BufId) → HasPages script b (live_in buffers b)
 
@@ -22,7 +22,7 @@ HaveTables script buffers = (b : BufId) → HasPages script b (live_in buffers b
 abbrev pub last_number : List ℕ → ℕ → ℕ
 last_number last ctx = unwrap_or (slice_get last ctx) 0
 
--- contexts and numbers within their bounds, distinct names, and no more packets run than there are
+-- the jobs have contexts and numbers within their bounds, distinct names, and no more packets run than there are
 pub record GoodJobs (engines : ℕ) (last : List ℕ) (jobs : List Job) : Type 0 where
   pub rooms : length last ≡ engines + 1
   pub contexts : (i : ℕ) (x : Job) → slice_get jobs i ≡ Some x → x.id.ctx ≤ engines
@@ -32,7 +32,7 @@ pub record GoodJobs (engines : ℕ) (last : List ℕ) (jobs : List Job) : Type 0
   pub some : (i : ℕ) (x : Job) → slice_get jobs i ≡ Some x → 0 < length x.packets
   pub few : (i : ℕ) (x : Job) → slice_get jobs i ≡ Some x → length x.packets ≤ 67108864
 
--- of a state
+-- the tables and jobs of a state are good
 pub record GoodState (script : Script) (s : State) : Type 0 where
   pub many : length s.core.buffers ≡ length script.buffers
   pub tables : HaveTables script s.core.buffers

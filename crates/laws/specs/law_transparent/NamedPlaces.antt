@@ -23,7 +23,7 @@ IsThere script c (place.Vram p) = p < script.sizes.vram
 IsThere script c (place.Frame f) = f < script.sizes.frames
 IsThere script c (place.Aper p) = IsMapped script c p
 
--- so many bytes from an offset on of a page that is there
+-- len bytes from an offset on lie in a page that is there
 pub record IsPart (script : Script) (c : Core) (place : PagePlace) (off len : ℕ) : Type 0 where
   pub page : IsThere script c place
   pub range : off + len ≤ 4096
@@ -35,6 +35,6 @@ IsRunnable script c (packet.Copy to toff from foff len) = IsPart script c to tof
 IsRunnable script c (packet.Xor to toff from foff len) = IsPart script c to toff len × IsPart script c from foff len
 IsRunnable script c (packet.Probe from off len) = IsPart script c from off len × (len ≤ 256)
 
--- each packet that hasn't run, of each job
+-- each packet that hasn't run, of each job, can run
 abbrev pub NameWhatIsThere : Script → Core → Type 0
 NameWhatIsThere script c = (i k : ℕ) (j : Job) (p : Packet) → slice_get c.jobs i ≡ Some j → slice_get (remaining j) k ≡ Some p → IsRunnable script c p

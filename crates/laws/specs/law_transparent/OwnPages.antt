@@ -15,7 +15,7 @@ use Rattle.journal_model.specs.rules.Places.{pages_of}
 abbrev pub HaveAPage : List Span → Type 0
 HaveAPage spans = (i : ℕ) (span : Span) → slice_get spans i ≡ Some span → span.start < span.end
 
--- so many pages, and one span at least
+-- the spans have n pages, and there is one span at least
 pub record HavePages (n : ℕ) (spans : List Span) : Type 0 where
   pub some : 0 < length spans
   pub each : HaveAPage spans

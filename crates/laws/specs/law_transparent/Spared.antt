@@ -8,7 +8,7 @@ use Rattle.journal_model.specs.declared.state.Job.{Job}
 use Rattle.journal_model.specs.rules.Holds.{has_number}
 use Rattle.journal_model.specs.statements.Spares.{remaining, pages_taken, pages_given}
 
--- no packet that hasn't run names one of them
+-- no packet that hasn't run names a page that the entry takes away or gives
 abbrev pub SparesPackets : Core → Kind → Type 0
 SparesPackets c k =
     (page i n : ℕ) (j : Job) (p : Packet) → has_number (pages_taken c k ++ pages_given c k) page ≡ true →

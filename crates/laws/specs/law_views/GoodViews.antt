@@ -10,7 +10,7 @@ use Rattle.laws.specs.lemma_bytes_model.View.{Owner, Idle, View, Good}
 use Rattle.laws.specs.law_holders.Holding.{Holds, unheld}
 use Rattle.laws.specs.lemma_bytes_view.World.{SeenBy}
 
--- who holds a page is its owner; nobody holds Nowhere
+-- the holder of a page is its owner; nobody holds Nowhere
 abbrev pub IsOwner : Core → Page → Owner → Type 0
 IsOwner c Nowhere o = o ≡ Idle
 IsOwner c x o = Holds c x o ⊎ (((p : Owner) → Holds c x p → ⊥) × (o ≡ unheld x))

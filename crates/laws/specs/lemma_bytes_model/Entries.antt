@@ -3,7 +3,7 @@ use Rattle.std.specs.Prelude.{◌≡◌, ℕ, suc, ◌<◌, Bool, true, false, c
 use Rattle.laws.specs.lemma_bytes_model.Memory.{Page, Bytes, Nowhere, Slot, Own, Stores, same_page, Packet, Write, Show, shown, Step, run, run_all, touched}
 use Rattle.laws.specs.lemma_bytes_model.View.{Free, at_job, Owner, Idle, Live, Kept, Target, Ghost, Fences, View, is_fence}
 
--- f, and true at n where w is
+-- f, and true at n if w is
 abbrev pub also : ℕ → Bool → (ℕ → Bool) → ℕ → Bool
 also n w f j = f j || (eqb n j && w)
 
@@ -13,7 +13,7 @@ pub data Piece : Type 0 where
   Change : ℕ → ℕ → ℕ → ℕ → (Bytes → Bytes → Bytes) → Piece
   Probe : ℕ → ℕ → (Bytes → List ℕ) → Piece
 
--- the packet of a piece, where the pages stand so
+-- the packet of a piece, where the pages stand at these places
 abbrev pub aimed : (ℕ → ℕ → Page) → Piece → Packet
 aimed place (Change b i c k f) = Write (place b i) (place c k) f
 aimed place (Probe b i g) = Show (place b i) g
@@ -59,7 +59,7 @@ armed ps waits changed used v = record v {
   plain = plain_after ps v.plain;
 }
 
--- when a job is emitted
+-- what must hold for a job to be emitted
 pub record ArmLegal (v : View) (ps : List Piece) (waits changed used : ℕ → Bool) : Type 0 where
   pub named : AllNamed v.place used changed ps
   pub emitted : (j : ℕ) → waits j ≡ true → j < v.count

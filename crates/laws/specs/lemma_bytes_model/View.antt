@@ -1,9 +1,9 @@
--- What the law sees of a state: the jobs with their packets that haven't run, who waits for whom, the
--- owner of each page, and the bytes. Jobs are numbered in the order of their emission.
+-- What the law sees of a state: the jobs with their packets that haven't run, which jobs wait for which, the owner of each page, and the
+-- bytes. Jobs are numbered in the order of their emission.
 use Rattle.std.specs.Prelude.{◌≡◌, ℕ, zero, suc, ◌<◌, ◌≤◌, Bool, true, false, cond, not, ◌&&◌, ◌||◌, ◌⊎◌, eqb, List, [], Option, Some}
 use Rattle.laws.specs.lemma_bytes_model.Memory.{Page, Bytes, Nowhere, Slot, Own, Stores, Step, run, run_all, touched, written, AllShow}
 
--- f but for a at k
+-- f but a at k
 abbrev pub at_job {ℓ} : {A : Type ℓ} → ℕ → A → (ℕ → A) → ℕ → A
 at_job k a f j = cond (eqb k j) a (f j)
 
@@ -23,7 +23,7 @@ pub data Owner : Type 0 where
   Target : ℕ → ℕ → Owner
   Ghost : ℕ → Owner
 
--- who is to be waited for
+-- the jobs that are to be waited for
 pub record Fences : Type 0 where
   -- the first job waits for the second, or follows it in its context
   pub prior : ℕ → ℕ → Bool

@@ -3,10 +3,10 @@ use Rattle.std.specs.Prelude.{◌≡◌, ℕ, Bool, true, List, Option, Some, fi
 use Rattle.ttm_base.specs.declared.Loc.{Loc}
 use Rattle.room_representation.specs.lemma_room_bytes.GivenBack.{given_back}
 
--- each number is held when its turn comes, after those before it
+-- each number is held when it is given back, after those before it
 abbrev pub AreHeldInTurn : List Bool → List ℕ → Type 0
 AreHeldInTurn pool ks = (i k : ℕ) → slice_get ks i ≡ Some k → slice_get (given_back pool (take i ks)) k ≡ Some true
 
--- and so is what each page of a table has, its frame or its slot
+-- what each page of a table has, its frame or its slot, is held when it is given back, after those before it
 abbrev pub AreHeldAlong : (Loc → Option ℕ) → List Bool → List Loc → Type 0
 AreHeldAlong see pool places = (i : ℕ) (l : Loc) (k : ℕ) → slice_get places i ≡ Some l → see l ≡ Some k → slice_get (given_back pool (filter_map see (take i places))) k ≡ Some true

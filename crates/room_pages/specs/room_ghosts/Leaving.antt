@@ -17,15 +17,15 @@ use Rattle.journal_model.specs.rules.Places.{frame_of}
 use Rattle.journal_model.specs.rules.State.{without_buffer}
 use Rattle.room_representation.specs.declared.parts.Ghost.{Ghost}
 
--- spans of one memory type, as another sees them
+-- the spans of the memory type `mem`, as `mine` sees them: none where it is another one
 abbrev pub spans_if : Mem → Mem → List Span → List Span
 spans_if mem mine spans = if same_mem mem mine then spans else []
 
--- all jobs of a set, in a new one
+-- all jobs of the set, in a new one
 abbrev pub all_jobs : List Latest → List Latest
 all_jobs set = all_added Read (replicate (length set) nothing_kept) set
 
--- its spans, its frames and all its jobs, under a number
+-- the ghost number `g` of a buffer, with its spans, its frames and all its jobs
 abbrev pub ghost_of : Bo → ℕ → Ghost
 ghost_of bo g =
     record {
@@ -36,15 +36,15 @@ ghost_of bo g =
       jobs = all_jobs bo.resv.fences;
     }
 
--- a buffer that is listed so is taken off its list
+-- the lists without buffer `b`, which stands on one if a listing is given
 abbrev pub off_list_as : Order → BufId → Option Listing → Order
 off_list_as o b None = o
 off_list_as o b (Some x) = removed o b
 
--- a buffer is taken off its list, if it is on one
+-- the lists without buffer `b`
 abbrev pub off_list : Order → BufId → Order
 off_list o b = off_list_as o b (listing_of o b)
 
--- the thread has freed the buffer, and holds it no more
+-- the course once the thread has freed the buffer, and holds it no more
 abbrev pub freeing : BufId → Course → Course
 freeing b c = has_made (record c { held = without_buffer c.held b })

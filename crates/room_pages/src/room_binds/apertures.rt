@@ -11,7 +11,7 @@ use place_list::PageCursor;
 use resource_core::{Manager, RangeRoom};
 use ttm_base::{BufId, Loc, Owner, Span};
 
-/// Takes the mappings of the pages of spans away, in as many steps as there are pages and spans.
+/// Clears the mappings of the pages of `spans`, in as many steps as there are pages and spans.
 pub fn clear_pages(aper: &mut Aperture, spans: &[Span])
     requires { AreBelow (pages_of spans.now) (length aper.old) }
     ensures { aper.new ≡ cleared aper.old (pages_of spans.now) }
@@ -21,7 +21,7 @@ pub fn clear_pages(aper: &mut Aperture, spans: &[Span])
     }
 }
 
-/// Maps a page as a page table says: to its frame, if it has one.
+/// Maps page `page` as its place in a page table says: to its frame, if it has one.
 fn map_page(aper: &mut Aperture, page: u32, place: Loc)
     requires { page < length aper.old }
     ensures after { aper.new ≡ slice_set aper.old page (frame_of place) }
@@ -33,7 +33,7 @@ fn map_page(aper: &mut Aperture, page: u32, place: Loc)
     }
 }
 
-/// Maps the pages of spans to the frames of a page table, one beside the other, in as many steps as there are pages and spans.
+/// Maps the pages of `spans` to the frames of the page table `table`, one after the other, in as many steps as there are pages and spans.
 pub fn map_pages(aper: &mut Aperture, spans: &[Span], table: &[Loc])
     requires { AreBelow (pages_of spans.now) (length aper.old) }
     ensures { aper.new ≡ mapped_to aper.old (pages_of spans.now) table.now }
@@ -47,7 +47,7 @@ pub fn map_pages(aper: &mut Aperture, spans: &[Span], table: &[Loc])
     }
 }
 
-/// Gives back the pages of TT that an owner holds, if it holds some, and takes their mappings away (ttm_resource_free).
+/// Gives back the pages of TT that `owner` holds, if it holds some, and clears their mappings (ttm_resource_free).
 pub fn give_mapped(aper: &mut Aperture, tt: &mut RangeRoom, owner: Owner)
     requires { AreBelow (pages_of (spans_at owner tt.old.held)) (length aper.old) }
     ensures aper { aper.new ≡ cleared aper.old (pages_of (spans_at owner tt.old.held)) }
@@ -60,7 +60,7 @@ pub fn give_mapped(aper: &mut Aperture, tt: &mut RangeRoom, owner: Owner)
     tt.give(owner);
 }
 
-/// Makes the pages of TT that wait for a buffer the buffer's own, mapped to its frames (ttm_bo_move_null). It holds none before.
+/// Makes the pages of TT that are the target of buffer `b` the buffer's own, mapped to its frames (ttm_bo_move_null). The buffer holds none before.
 pub fn map_target(aper: &mut Aperture, tt: &mut RangeRoom, b: BufId, table: &[Loc])
     requires below { AreBelow (pages_of (spans_at (owner.Target b) tt.old.held)) (length aper.old) }
     requires fresh { holds (owner.Live b) tt.old.held ≡ false }

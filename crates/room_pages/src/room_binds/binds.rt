@@ -11,7 +11,7 @@ use lru_bulk::Lru;
 use room_representation::Parts;
 use ttm_base::{BufId, Mem, Owner};
 
-/// Places a buffer on the list of another memory type, if it is on one.
+/// Moves buffer `b` to the list of the memory type `mem`, if it is on a list.
 pub fn relist(lru: &mut Lru, b: BufId, mem: Mem)
     ensures { lru.new ≡ relisted lru.old b mem }
 {
@@ -20,7 +20,7 @@ pub fn relist(lru: &mut Lru, b: BufId, mem: Mem)
     }
 }
 
-/// A buffer goes from SYSTEM to its target in TT: its frames stay, and are mapped there.
+/// Moves buffer `b` from SYSTEM to its target in TT: its frames stay, and are mapped there.
 pub fn bind(
     parts: &mut Parts,
     script: &Script,
@@ -41,7 +41,7 @@ pub fn bind(
     relist(&mut parts.lru, b, Mem::Tt);
 }
 
-/// A buffer goes from TT to SYSTEM: its frames stay, and its pages of TT are free.
+/// Moves buffer `b` from TT to SYSTEM: its frames stay, and its pages of TT are free.
 pub fn unbind(
     parts: &mut Parts,
     script: &Script,

@@ -6,7 +6,7 @@ use state_words::frame_of;
 use std::alloc::Global;
 use ttm_base::{Loc, NoMemory};
 
-/// The frames of a page table, page by page.
+/// Returns the frames of the page table `places`, page by page.
 pub fn frames_in(alloc: Global, places: &[Loc]) -> Result<Frames, NoMemory>
     ensures { IfOk result (λ frames. frames ≡ filter_map words.frame_of places.now) }
 {

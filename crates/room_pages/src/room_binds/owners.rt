@@ -5,7 +5,7 @@ ghost use Rattle.room_representation.specs.lemma_room_spans.Calls.{given, passed
 use resource_core::Manager;
 use ttm_base::Owner;
 
-/// Makes the spans of one owner those of another, which holds none, if it holds some.
+/// Makes the spans of the owner `from`, if it holds some, those of `to`, which holds none.
 pub fn pass_on<M: Manager>(room: &mut M, from: Owner, to: Owner)
     requires { holds to (M.resources room.old).held ≡ false }
     ensures held { M.resources room.new ≡ passed_on from to (M.resources room.old) }
@@ -16,7 +16,7 @@ pub fn pass_on<M: Manager>(room: &mut M, from: Owner, to: Owner)
     }
 }
 
-/// Frees the spans of an owner, if it holds some.
+/// Frees the spans of `owner`, if it holds some.
 pub fn give_back<M: Manager>(room: &mut M, owner: Owner)
     ensures held { M.resources room.new ≡ given owner (M.resources room.old) }
     ensures rule { M.choice room.new ≡ M.choice room.old }

@@ -7,7 +7,7 @@ use journal_model::{BufIds, Courses};
 use state_words::same_buffer;
 use ttm_base::BufId;
 
-/// Takes a buffer out of those that a thread holds.
+/// Takes buffer `b` out of `held`, the buffers that a thread holds.
 fn let_go(held: &mut BufIds, b: BufId)
     ensures { held.new ≡ without_buffer held.old b }
 {
@@ -21,7 +21,7 @@ fn let_go(held: &mut BufIds, b: BufId)
     }
 }
 
-/// A thread has freed a buffer, which it holds no more: that is what its command is for.
+/// Notes that `thread` has freed buffer `b`, which it no longer holds, and with that has done what its command is for.
 pub(crate) fn has_freed(courses: &mut Courses, thread: u32, b: BufId)
     requires { IsSome (course_at courses.old thread) }
     ensures { courses.new ≡ with_course_by (freeing b) courses.old thread }

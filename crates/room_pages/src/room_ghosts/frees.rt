@@ -16,7 +16,7 @@ use room_representation::Parts;
 use std::alloc::Global;
 use ttm_base::{BufId, NoMemory, Owner};
 
-/// Takes a buffer off its list, if it is on one.
+/// Takes buffer `b` off its list, if it is on one.
 fn take_off(lru: &mut Lru, b: BufId)
     ensures { lru.new ≡ off_list lru.old b }
 {
@@ -25,7 +25,7 @@ fn take_off(lru: &mut Lru, b: BufId)
     }
 }
 
-/// A buffer whose jobs are done is freed: all that it has is free, and its pages of TT are mapped no more.
+/// Frees buffer `b`, whose jobs are done: all that it has is free, and its pages of TT are no longer mapped.
 fn free_idle(
     parts: &mut Parts,
     script: &Script,
@@ -50,7 +50,7 @@ fn free_idle(
     has_freed(&mut parts.courses, thread, b);
 }
 
-/// A buffer that jobs still use is freed: a ghost has its spans and frames, which stay mapped, and its jobs.
+/// Frees buffer `b`, which jobs still use: ghost `g` takes over its spans and frames, which stay mapped, and its jobs.
 fn free_busy(
     parts: &mut Parts,
     alloc: Global,
@@ -82,7 +82,7 @@ fn free_busy(
     Ok(())
 }
 
-/// A buffer is freed. Where jobs still use it, it leaves a ghost of that number, else the number is 0.
+/// Frees buffer `b`. Where jobs still use it, it leaves ghost number `g`, else `g` is 0.
 pub fn free(
     parts: &mut Parts,
     alloc: Global,

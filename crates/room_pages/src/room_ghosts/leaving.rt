@@ -8,7 +8,7 @@ use room_representation::Ghost;
 use std::alloc::Global;
 use ttm_base::{Mem, NoMemory, Spans, Usage};
 
-/// A copy of spans in a memory type, none where it isn't the one that is asked for.
+/// Returns a copy of `spans`, or none where the memory type `mem` isn't `mine`, the one that is asked for.
 fn spans_in(alloc: Global, mem: Mem, mine: Mem, spans: &Spans) -> Result<Spans, NoMemory>
     ensures { IfOk result (λ copy. copy ≡ spans_if mem mine spans.now) }
 {
@@ -19,7 +19,7 @@ fn spans_in(alloc: Global, mem: Mem, mine: Mem, spans: &Spans) -> Result<Spans, 
     }
 }
 
-/// A set of all jobs of another one.
+/// Returns a set of all jobs of `set`.
 fn jobs_in(alloc: Global, set: &FenceSet) -> Result<FenceSet, NoMemory>
     ensures { IfOk result (λ jobs. jobs ≡ all_jobs set.now) }
 {
@@ -28,7 +28,7 @@ fn jobs_in(alloc: Global, set: &FenceSet) -> Result<FenceSet, NoMemory>
     Ok(jobs)
 }
 
-/// What a freed buffer leaves until its jobs are done.
+/// Returns the ghost number `g` that the freed buffer `bo` leaves until its jobs are done.
 pub(crate) fn ghost_of(alloc: Global, bo: &Bo, g: u64) -> Result<Ghost, NoMemory>
     ensures { IfOk result (λ ghost. ghost ≡ left_by bo.now g) }
 {

@@ -7,7 +7,7 @@ use page_pool::PagePool;
 use swap_store::SwapStore;
 use ttm_base::Loc;
 
-/// Frames go back to the pool, in order.
+/// Gives `frames` back to the pool, in order.
 pub(crate) fn give_all(pool: &mut PagePool, frames: &[u32])
     requires { AreHeldInTurn pool.old frames.now }
     ensures { pool.new ≡ given_back pool.old frames.now }
@@ -17,7 +17,7 @@ pub(crate) fn give_all(pool: &mut PagePool, frames: &[u32])
     }
 }
 
-/// The slots of a page table are free, and nobody reads their bytes.
+/// Frees the slots of the page table `places`; nobody reads their bytes any more.
 pub(crate) fn drop_slots(swap: &mut SwapStore, places: &[Loc])
     requires { AreHeldAlong slot_of swap.old.held places.now }
     ensures { swap.new ≡ record { held = given_back swap.old.held (filter_map slot_of places.now); bytes = swap.old.bytes } }

@@ -10,7 +10,7 @@ use journal_model::{Entry, Script};
 use room_representation::Parts;
 use ttm_base::Owner;
 
-/// The first ghost is destroyed: all that it has is free, and its pages of TT are mapped no more.
+/// Destroys the first ghost: all that it has is free, and its pages of TT are no longer mapped.
 pub fn reap(parts: &mut Parts, script: &Script, before: &[Entry], entry: &Entry, g: u64)
     requires held { AreHeld script.now before.now parts.old }
     requires is { entry.now ≡ record { who = actor.Reaper; kind = kind.Reap g } }

@@ -29,11 +29,11 @@ use Rattle.room_representation.specs.lemma_room_bytes.Tables.{SparesSlots}
 abbrev pub frame_at : Buffer → ℕ → ℕ
 frame_at x page = unwrap_or (frame_of (loc_of x page)) 0
 
--- the frames of the ghost of that number
+-- the frames of the ghost number `num`
 abbrev pub frames_behind : ℕ → List Ghost → List ℕ
 frames_behind num ghosts = unwrap_or (option_map (λ g. g.frames) (find (λ g. g.num == num) ghosts)) []
 
--- the pool
+-- the pool after an entry
 abbrev pub pool_after : State → Kind → List Bool → List Bool
 pool_after s (kind.Populate b page f) pool = taken pool f
 pool_after s (kind.SwapIn b page k f) pool = taken pool f
@@ -43,21 +43,21 @@ pool_after s (kind.Free b g) pool = if g == 0 then given_back pool (frames_of (b
 pool_after s (kind.Reap g) pool = given_back pool (frames_behind g s.core.ghosts)
 pool_after s _ pool = pool
 
--- the swap store; a page that is swapped out leaves these bytes in its slot
+-- the swap store after an entry; a page that is swapped out leaves `page_bytes` in its slot
 abbrev pub slots_after : State → Kind → List ℕ → SwapSlots → SwapSlots
 slots_after s (kind.SwapIn b page k f) page_bytes swap = record { held = given swap.held k; bytes = swap.bytes }
 slots_after s (kind.SwapOut b page k) page_bytes swap = record { held = taken swap.held k; bytes = overwritten swap.bytes (4096 * k) page_bytes }
 slots_after s (kind.Free b g) page_bytes swap = record { held = given_back swap.held (slots_of (buffer s b)); bytes = swap.bytes }
 slots_after s _ page_bytes swap = swap
 
--- the bytes are those of the page that is swapped out
+-- `page_bytes` are the bytes of the page that is swapped out
 abbrev pub IsSwappedOut : State → Kind → PageBytes → List ℕ → Type 0
 IsSwappedOut s (kind.SwapOut b page k) bytes page_bytes = (length page_bytes ≡ 4096) × ((o : ℕ) → o < 4096 → slice_index page_bytes o ≡ bytes (page_at (buffer s b) page) o)
 IsSwappedOut s _ bytes page_bytes = Unit {0}
 
 -- ---- what an entry tells
 
--- the table of a live buffer has this at a page
+-- the table of the live buffer `b` has `l` at page `page`
 pub record HasLoc (s : State) (b : BufId) (page : ℕ) (l : Loc) : Type 0 where
   pub live : IsThere s b
   pub at : slice_get (buffer s b).table page ≡ Some l
@@ -74,7 +74,7 @@ pub record IsOnlyGhost (ghosts : List Ghost) (num : ℕ) : Type 0 where
 abbrev pub HaveNoSlotsInTt : Core → Type 0
 HaveNoSlotsInTt c = (b : BufId) (x : Buffer) → live_in c.buffers b ≡ Some x → x.mem ≡ Tt → (i k : ℕ) → slice_get x.table i ≡ Some (loc.Slot k) → ⊥
 
--- as far as frames and slots depend on it
+-- what an entry tells of the state before it, as far as frames and slots depend on it
 abbrev pub Tells : Script → State → Actor → Kind → Type 0
 Tells script s who (kind.New b) = live_in s.core.buffers b ≡ None
 Tells script s who (kind.Free b g) = IsThere s b

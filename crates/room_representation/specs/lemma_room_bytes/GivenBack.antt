@@ -5,15 +5,15 @@ use Rattle.ttm_base.specs.declared.Mem.TheVariants.{System, Tt, Vram}
 use Rattle.journal_model.specs.declared.state.Buffer.{Buffer}
 use Rattle.journal_model.specs.rules.Places.{slots_of}
 
--- the number is held
+-- the pool, with the number held
 abbrev pub taken : List Bool → ℕ → List Bool
 taken pool k = slice_set pool k true
 
--- the number is free
+-- the pool, with the number free
 abbrev pub given : List Bool → ℕ → List Bool
 given pool k = slice_set pool k false
 
--- the numbers are free, given back in order
+-- the pool, with the numbers free, given back in order
 abbrev pub given_back : List Bool → List ℕ → List Bool
 given_back pool ks = fold given pool ks
 

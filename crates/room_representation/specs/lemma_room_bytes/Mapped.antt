@@ -18,7 +18,7 @@ use Rattle.room_representation.specs.Pages.{AreStores}
 abbrev pub HasStores : Script → State → PageBytes → Stores → Type 0
 HasStores script s bytes st = AreStores script.sizes (aperture s.core) bytes st
 
--- they have those after an entry
+-- the stores have the bytes and the aperture after an entry
 abbrev pub HasStoresAfter : Script → State → PageBytes → Actor → Kind → Stores → Type 0
 HasStoresAfter script s bytes who k st = AreStores script.sizes (aperture (applied script s who k).core) (within script.sizes (stores_after script s who k bytes)) st
 
@@ -36,13 +36,13 @@ leaves_stores (kind.Bulk group) = true
 leaves_stores (kind.Refused d) = true
 leaves_stores _ = false
 
--- each page is mapped to the frame at the same place of a table
+-- the aperture, where each page is mapped to the frame at the same place of a table
 abbrev pub mapped_to : List (Option ℕ) → List ℕ → List Loc → List (Option ℕ)
 mapped_to aper [] table = aper
 mapped_to aper (p ∷ ps) [] = aper
 mapped_to aper (p ∷ ps) (l ∷ table) = mapped_to (slice_set aper p (frame_of l)) ps table
 
--- no page is mapped any more
+-- the aperture, where the pages are no longer mapped
 abbrev pub cleared : List (Option ℕ) → List ℕ → List (Option ℕ)
 cleared aper [] = aper
 cleared aper (p ∷ ps) = cleared (slice_set aper p None) ps

@@ -16,7 +16,7 @@ use Rattle.journal_model.specs.rules.Commands.{command_at_work}
 use Rattle.journal_model.specs.rules.Holds.{held_frames, held_slots}
 use Rattle.journal_model.specs.rules.Places.{page_at}
 
--- it neither makes nor frees a buffer, nor changes a table, nor moves frames to a ghost or from one
+-- an entry of the kind neither makes nor frees a buffer, nor changes a table, nor moves frames to a ghost or from one
 abbrev pub keeps_tables : Kind → Bool
 keeps_tables (kind.New b) = false
 keeps_tables (kind.Free b g) = false

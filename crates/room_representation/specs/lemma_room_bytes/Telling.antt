@@ -14,22 +14,22 @@ use Rattle.journal_model.specs.rules.State.{buffer, live_in}
 use Rattle.journal_model.specs.rules.Places.{loc_of}
 use Rattle.room_representation.specs.lemma_room_bytes.Mapped.{IsFull}
 
--- a live buffer out of TT
+-- buffer `b` is live and stands outside TT
 pub record IsOutside (s : State) (b : BufId) : Type 0 where
   pub live : live_in s.core.buffers b ≡ Some (buffer s b)
   pub out : (buffer s b).mem ≡ Tt → ⊥
 
--- one of its pages gets this frame
+-- a page of buffer `b`, which stands outside TT, gets frame `f`
 pub record GetsFrame (script : Script) (s : State) (b : BufId) (f : ℕ) : Type 0 where
   pub outside : IsOutside s b
   pub frame : f < script.sizes.frames
 
--- in the place of this slot
+-- page `page` of buffer `b` gets frame `f` in the place of slot `k`
 pub record LeavesSlot (script : Script) (s : State) (b : BufId) (page k f : ℕ) : Type 0 where
   pub gets : GetsFrame script s b f
   pub at : loc_of (buffer s b) page ≡ loc.Slot k
 
--- a live buffer with all its frames comes to TT, from this memory type
+-- the live buffer `b` with all its frames comes to TT from the memory type `from`
 pub record ComesIn (s : State) (b : BufId) (from : Mem) : Type 0 where
   pub live : live_in s.core.buffers b ≡ Some (buffer s b)
   pub mem : (buffer s b).mem ≡ from
@@ -42,7 +42,7 @@ MoveTells s b Vram left.Now = ⊥
 MoveTells s b Vram (left.Ghost g) = live_in s.core.buffers b ≡ Some (buffer s b)
 MoveTells s b System l = ⊥
 
--- by kind
+-- what an entry of the kind tells
 abbrev pub Tells : Script → State → Kind → Type 0
 Tells script s (kind.New b) = live_in s.core.buffers b ≡ None
 Tells script s (kind.Free b g) = live_in s.core.buffers b ≡ Some (buffer s b)

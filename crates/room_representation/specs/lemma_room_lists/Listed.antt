@@ -15,7 +15,7 @@ abbrev pub listing_as : Script → BufId → ℕ → Option Buffer → Option Li
 listing_as script b pins None = None
 listing_as script b pins (Some x) = if pins == 0 then Some (record { mem = x.mem; prio = (decl script b).prio; group = (decl script b).group }) else None
 
--- how a buffer is to be listed
+-- how buffer `b` is to be listed
 abbrev pub listing_due : Script → List (Option Buffer) → List Reservation → BufId → Option Listing
 listing_due script buffers reservations b = listing_as script b (reservation_in reservations b).pins (live_in buffers b)
 

@@ -16,52 +16,52 @@ use Rattle.journal_model.specs.declared.entry.Left.TheVariants as left
 
 -- ---- one call (`hold`; `give` and `pass`, where the owner holds something)
 
--- the owner holds spans
+-- the resources, where the owner holds the spans, too
 abbrev pub held_by : Owner → List Span → Resources → Resources
 held_by o spans r = record r { held = r.held ++ record { owner = o; spans = spans } ∷ [] }
 
--- the owner holds nothing
+-- the resources, where the owner holds nothing
 abbrev pub given : Owner → Resources → Resources
 given o r = if holds o r.held then record r { held = without_owner o r.held } else r
 
--- another has what the owner held
+-- the resources, where `to` has what `from` held
 abbrev pub passed_on : Owner → Owner → Resources → Resources
 passed_on from to r = if holds from r.held then record r { held = renamed from to r.held } else r
 
 -- ---- the calls for an entry, in the manager of one memory type
 
--- a target gets spans of a memory type
+-- the resources of `mine` once the target of buffer `b` gets spans of `mem`
 abbrev pub taken : Mem → Mem → BufId → List Span → Resources → Resources
 taken mine mem b spans r = if same_mem mem mine then held_by (owner.Target b) spans r else r
 
--- a target gives them back
+-- the resources of `mine` once the target of buffer `b` in `mem` gives its spans back
 abbrev pub untaken : Mem → Mem → BufId → Resources → Resources
 untaken mine mem b r = if same_mem mem mine then given (owner.Target b) r else r
 
--- the buffer has the spans of its target
+-- the resources of `mine` once buffer `b` has the spans of its target in `mem`
 abbrev pub arrived : Mem → Mem → BufId → Resources → Resources
 arrived mine mem b r = if same_mem mem mine then passed_on (owner.Target b) (owner.Live b) r else r
 
--- the buffer leaves its spans free, or to a ghost
+-- the resources once buffer `b` leaves its spans free, or to a ghost
 abbrev pub left_by : BufId → Left → Resources → Resources
 left_by b left.Now r = given (owner.Live b) r
 left_by b (left.Ghost g) r = passed_on (owner.Live b) (owner.Ghost g) r
 
--- the buffer leaves its spans, and has those of its target
+-- the resources of `mine` once buffer `b` leaves its spans, and has those of its target in `mem`
 abbrev pub carried : Mem → Mem → BufId → Left → Resources → Resources
 carried mine mem b l r = arrived mine mem b (left_by b l r)
 
--- a freed buffer leaves its spans free, or to a ghost, whose number isn't 0
+-- the resources once the freed buffer `b` leaves its spans free, or to ghost `g`, whose number isn't 0
 abbrev pub freed : BufId → ℕ → Resources → Resources
 freed b g r = if g == 0 then given (owner.Live b) r else passed_on (owner.Live b) (owner.Ghost g) r
 
--- a buffer that goes to SYSTEM gives back what it has of TT
+-- the resources of `mine` once buffer `b`, which goes to SYSTEM, gives back what it has of TT
 abbrev pub unbound_in : Mem → BufId → Resources → Resources
 unbound_in mine b r = if same_mem Tt mine then given (owner.Live b) r else r
 
 -- ---- by kind of entry
 
--- what the calls for an entry leave
+-- the resources that the calls for an entry leave
 abbrev pub behind : Mem → Kind → Resources → Resources
 behind mine (kind.Take b mem spans) r = taken mine mem b spans r
 behind mine (kind.Untake b mem) r = untaken mine mem b r

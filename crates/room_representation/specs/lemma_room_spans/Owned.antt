@@ -1,4 +1,4 @@
--- Who holds which spans of VRAM or TT, in a state and in a manager (ttm_resource_manager).
+-- The holders of spans of VRAM or TT, in a state and in a manager (ttm_resource_manager).
 use Rattle.std.specs.Prelude.{◌≡◌, ℕ, ◌==◌, Bool, true, false, List, [], Option, Some, find, option_map, slice_get, unwrap_or, if◌then◌else◌}
 use Rattle.ttm_base.specs.declared.Mem.{Mem}
 use Rattle.ttm_base.specs.declared.Mem.TheVariants.{Vram as OfVram}
@@ -21,21 +21,21 @@ owned mem buffers ghosts (owner.Live b) = unwrap_or (option_map (spans_in mem) (
 owned mem buffers ghosts (owner.Target b) = unwrap_or (option_map (target_spans mem) (live_in buffers b)) []
 owned mem buffers ghosts (owner.Ghost g) = unwrap_or (option_map (ghost_spans mem) (find (λ h. h.num == g) ghosts)) []
 
--- a manager of this size keeps of each owner these spans, in one holding where there are some
+-- a manager of `size` pages keeps of each owner the spans that `spans_of` tells, in one holding where there are some
 pub record HoldsAs (size : ℕ) (spans_of : Owner → List Span) (r : Resources) : Type 0 where
   pub size_is : r.size ≡ size
   pub owners : AreDistinct r.held
   pub each : (o : Owner) → kept_by o r.held ≡ some_spans (spans_of o)
 
--- those that buffers and ghosts tell
+-- a manager keeps of each owner the spans that buffers and ghosts tell
 abbrev pub HoldsAsOwned : ℕ → Mem → List (Option Buffer) → List Ghost → Resources → Type 0
 HoldsAsOwned size mem buffers ghosts r = HoldsAs size (owned mem buffers ghosts) r
 
--- those of a state
+-- a manager keeps of each owner the spans that the state tells
 abbrev pub HoldsAsIn : ℕ → Mem → State → Resources → Type 0
 HoldsAsIn size mem s r = HoldsAsOwned size mem s.core.buffers s.core.ghosts r
 
--- one owner has these spans, and the others have what they had
+-- the spans of each owner, where owner `o` has `spans`, and the others have what they had
 abbrev pub with_owner : (Owner → List Span) → Owner → List Span → Owner → List Span
 with_owner spans_of o spans p = if same_owner o p then spans else spans_of p
 
@@ -48,7 +48,7 @@ abbrev pub kind_of : Bool → PagesKind
 kind_of true = Blocks
 kind_of false = Ranges
 
--- a manager of VRAM of that kind
+-- a manager of VRAM of the kind that `buddy` tells keeps the spans that buffers and ghosts tell
 pub record HoldsVram (size : ℕ) (buddy : Bool) (buffers : List (Option Buffer)) (ghosts : List Ghost) (v : Vram) : Type 0 where
   pub kind_is : v.kind ≡ kind_of buddy
   pub holds : HoldsAsOwned size OfVram buffers ghosts v.resources

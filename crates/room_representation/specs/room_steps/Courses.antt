@@ -12,26 +12,26 @@ use Rattle.journal_model.specs.rules.Commands.{commands_of}
 abbrev pub course_at : List Course → ℕ → Option Course
 course_at courses thread = if thread == 0 then None else slice_get courses (thread - 1)
 
--- where it is known to be
+-- the thread's course, where the thread is known to be there
 abbrev pub course_in : List Course → ℕ → Course
 course_in courses thread = unwrap_or (course_at courses thread) (new_course 0)
 
--- the command that it is at, if one is left
+-- the command that the thread is at, if one is left
 abbrev pub command_in : Script → List Course → ℕ → Option Command
 command_in script courses thread = slice_get (commands_of script thread) (course_in courses thread).answered
 
--- the courses after one of them was changed
+-- the courses after that of the thread was changed by `f`
 abbrev pub with_course_by : (Course → Course) → List Course → ℕ → List Course
 with_course_by f courses thread = with_course courses thread (f (course_in courses thread))
 
--- it has a ticket
+-- the course with a ticket
 abbrev pub stamped : Stamp → Course → Course
 stamped stamp c = record c { stamp = Some stamp }
 
--- one more buffer is held
+-- the course with one more buffer held
 abbrev pub with_held : BufId → Course → Course
 with_held b c = record c { held = c.held ++ b ∷ [] }
 
--- nothing is held, and the buffer comes first
+-- the course where nothing is held, and buffer `b` comes first
 abbrev pub begun_anew : BufId → Course → Course
 begun_anew b c = record c { held = []; first = Some b }

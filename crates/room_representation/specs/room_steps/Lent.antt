@@ -3,6 +3,6 @@ use Rattle.std.specs.Prelude.{[]}
 use Rattle.bo_table.specs.declared.bo.Bo.{Bo}
 use Rattle.journal_model.specs.declared.state.Buffer.{Buffer}
 
--- without its fences, which stand apart
+-- the buffer without its fences, which stand apart
 abbrev pub as_buffer : Bo → Buffer
 as_buffer bo = record { mem = bo.mem; spans = bo.spans; table = bo.table; targets = bo.targets; fences = [] }

@@ -9,7 +9,7 @@ use state_words::{commands_of, courses, new_course};
 use std::alloc::Global;
 use ttm_base::{BufId, Deny, NoMemory, Stamp};
 
-/// The ticket of a thread.
+/// Returns the ticket of `thread`, or None where it has none.
 pub fn stamp_of(courses: &Courses, thread: u32) -> Option<Stamp>
     requires { IsSome (course_at courses.now thread) }
     ensures { result ≡ (course_in courses.now thread).stamp }
@@ -17,7 +17,7 @@ pub fn stamp_of(courses: &Courses, thread: u32) -> Option<Stamp>
     courses.get(thread as usize - 1).stamp
 }
 
-/// The command that a thread is at.
+/// Returns the command that `thread` is at.
 pub fn command_of<'a>(script: &'a Script, courses: &Courses, thread: u32) -> &'a Command
     requires there { IsSome (course_at courses.now thread) }
     requires left { IsSome (command_in script.now courses.now thread) }
@@ -27,7 +27,7 @@ pub fn command_of<'a>(script: &'a Script, courses: &Courses, thread: u32) -> &'a
     &commands_of(script, thread)[course.answered as usize]
 }
 
-/// The named buffers that a thread holds.
+/// Returns the named buffers that `thread` holds.
 pub fn held_by(courses: &Courses, thread: u32) -> &[BufId]
     requires { IsSome (course_at courses.now thread) }
     ensures { result.now ≡ (course_in courses.now thread).held }
@@ -35,7 +35,7 @@ pub fn held_by(courses: &Courses, thread: u32) -> &[BufId]
     courses.get(thread as usize - 1).held.items()
 }
 
-/// A thread has a ticket.
+/// Gives `thread` the ticket `stamp`.
 pub fn give_ticket(courses: &mut Courses, thread: u32, stamp: Stamp)
     requires { IsSome (course_at courses.old thread) }
     ensures { courses.new ≡ with_course_by (stamped stamp) courses.old thread }
@@ -44,7 +44,7 @@ pub fn give_ticket(courses: &mut Courses, thread: u32, stamp: Stamp)
     course.stamp = Some(stamp);
 }
 
-/// A thread holds one more buffer.
+/// Adds buffer `b` to those that `thread` holds.
 #[tactic(auto, using(ttm_base::proofs::ListLaws::set_same))]
 pub fn hold(courses: &mut Courses, thread: u32, b: BufId) -> Result<(), NoMemory>
     requires { IsSome (course_at courses.old thread) }
@@ -56,7 +56,7 @@ pub fn hold(courses: &mut Courses, thread: u32, b: BufId) -> Result<(), NoMemory
     Ok(())
 }
 
-/// A thread holds nothing, and begins again with a buffer.
+/// Empties the list of buffers that `thread` holds, and lets it begin again with buffer `b`.
 pub fn begin_anew(courses: &mut Courses, thread: u32, b: BufId)
     requires { IsSome (course_at courses.old thread) }
     ensures { courses.new ≡ with_course_by (begun_anew b) courses.old thread }
@@ -66,7 +66,7 @@ pub fn begin_anew(courses: &mut Courses, thread: u32, b: BufId)
     course.first = Some(b);
 }
 
-/// A thread has done what its command is for.
+/// Notes that `thread` has done what its command is for.
 pub fn has_made(courses: &mut Courses, thread: u32)
     requires { IsSome (course_at courses.old thread) }
     ensures { courses.new ≡ with_course_by rows.has_made courses.old thread }
@@ -75,7 +75,7 @@ pub fn has_made(courses: &mut Courses, thread: u32)
     course.made = true;
 }
 
-/// A thread has caught one more buffer.
+/// Adds buffer `b` to the victims that `thread` has caught, for the reason `why`.
 #[tactic(auto, using(ttm_base::proofs::ListLaws::set_same))]
 pub fn add_victim(courses: &mut Courses, thread: u32, b: BufId, why: Why) -> Result<(), NoMemory>
     requires { IsSome (course_at courses.old thread) }
@@ -86,7 +86,7 @@ pub fn add_victim(courses: &mut Courses, thread: u32, b: BufId, why: Why) -> Res
     courses::add_victim(course, b, why)
 }
 
-/// A thread has let a victim go.
+/// Takes buffer `b` from the victims of `thread`, which has let it go.
 pub fn forget_victim(courses: &mut Courses, thread: u32, b: BufId)
     requires { IsSome (course_at courses.old thread) }
     ensures { courses.new ≡ with_course_by (no_longer_caught b) courses.old thread }
@@ -95,7 +95,7 @@ pub fn forget_victim(courses: &mut Courses, thread: u32, b: BufId)
     courses::forget_victim(course, b);
 }
 
-/// A thread has let a victim go, and passes over it.
+/// Takes buffer `b` from the victims of `thread`, and adds it to those that the thread passes over.
 #[tactic(auto, using(ttm_base::proofs::ListLaws::set_same))]
 pub fn skip_victim(courses: &mut Courses, thread: u32, b: BufId) -> Result<(), NoMemory>
     requires { IsSome (course_at courses.old thread) }
@@ -106,7 +106,7 @@ pub fn skip_victim(courses: &mut Courses, thread: u32, b: BufId) -> Result<(), N
     courses::skip_victim(course, b)
 }
 
-/// The search of a thread for a buffer has failed.
+/// Notes that the search of `thread` for buffer `b` has failed with `deny`.
 pub fn fail_search(courses: &mut Courses, thread: u32, b: BufId, deny: Deny)
     requires { IsSome (course_at courses.old thread) }
     ensures { courses.new ≡ with_course_by (with_fail b deny) courses.old thread }
@@ -115,7 +115,7 @@ pub fn fail_search(courses: &mut Courses, thread: u32, b: BufId, deny: Deny)
     courses::fail_search(course, b, deny);
 }
 
-/// The search of a thread for a named buffer begins again.
+/// Lets the search of `thread` for the named buffer `b` begin again.
 pub fn end_search(courses: &mut Courses, thread: u32, b: BufId)
     requires { IsSome (course_at courses.old thread) }
     ensures { courses.new ≡ with_course_by (search_over b) courses.old thread }
@@ -124,7 +124,7 @@ pub fn end_search(courses: &mut Courses, thread: u32, b: BufId)
     courses::end_search(course, b);
 }
 
-/// One more place of a search for a named buffer is dry.
+/// Notes that place `k` of the `places` of the search of `thread` for a named buffer is dry.
 pub fn go_dry(courses: &mut Courses, thread: u32, k: u32, places: usize)
     requires there { IsSome (course_at courses.old thread) }
     requires room { k + 1 < 2 ^ 32 }
@@ -134,7 +134,7 @@ pub fn go_dry(courses: &mut Courses, thread: u32, k: u32, places: usize)
     courses::go_dry(course, k, places);
 }
 
-/// A thread goes on to its next command.
+/// Moves `thread` on to its next command.
 pub fn go_on(courses: &mut Courses, alloc: Global, thread: u32)
     requires there { IsSome (course_at courses.old thread) }
     requires room { (course_in courses.old thread).answered + 1 < 2 ^ 32 }

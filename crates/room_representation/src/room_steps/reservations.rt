@@ -6,7 +6,7 @@ ghost use Rattle.bo_table.specs.Seen.{with_reservation};
 use bo_table::BoTable;
 use ttm_base::{BufId, Stamp};
 
-/// A ticket holds a buffer that nobody holds; no ticket, no holder.
+/// Reserves buffer `b`, which has no holder, for the ticket `stamp`; without a ticket it stays without a holder.
 pub fn hold_for(bos: &mut BoTable, b: BufId, stamp: Option<Stamp>)
     requires { (reservation_in bos.old.reservations b).holder ≡ None }
     ensures { bos.new ≡ with_reservation (with_holder stamp) bos.old b }
@@ -17,7 +17,7 @@ pub fn hold_for(bos: &mut BoTable, b: BufId, stamp: Option<Stamp>)
     }
 }
 
-/// Nobody holds these buffers.
+/// Releases the buffers `bs`, which then have no holder.
 pub fn release_all(bos: &mut BoTable, bs: &[BufId])
     ensures { bos.new ≡ record bos.old { reservations = released bos.old.reservations bs.now } }
 {

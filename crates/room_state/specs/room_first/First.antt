@@ -14,16 +14,16 @@ use Rattle.room_state.specs.declared.room_first.first.Buffers.{Buffers}
 use Rattle.room_state.specs.declared.room_first.first.Memory.{Memory}
 use Rattle.room_state.specs.declared.room_first.first.Work.{Work}
 
--- zeros, and no page of TT mapped
+-- stores of zeros, where no page of TT is mapped
 abbrev pub first_stores : Sizes → Stores
 first_stores sizes =
     record { vram = filled (4096 * sizes.vram) 0; frames = filled (4096 * sizes.frames) 0; aper = replicate sizes.tt None }
 
--- pages that no owner holds, without a move job
+-- the resources of `size` pages that no owner holds, without a move job
 abbrev pub free_pages : ℕ → Resources
 free_pages size = record { size = size; held = []; move_fence = None }
 
--- all pages, frames and slots free
+-- the memory where all pages, frames and slots are free
 abbrev pub first_memory : Sizes → Memory
 first_memory sizes =
     record {
@@ -34,15 +34,15 @@ first_memory sizes =
       stores = first_stores sizes;
     }
 
--- the contexts: the move engine's, and one of each user engine
+-- the number of contexts: the move engine's, and one for each user engine
 abbrev pub contexts_of : Sizes → ℕ
 contexts_of sizes = sizes.engines + 1
 
--- all buffers dead, and all lists empty
+-- the buffers, all dead, and their lists, all empty
 abbrev pub first_buffers : Script → Buffers
 first_buffers script = record { bos = first_bos script.buffers (contexts_of script.sizes); lru = nothing_listed (length script.buffers) 16 }
 
--- no job, and each thread at its first command
+-- the work before the first entry: no job, and each thread at its first command
 abbrev pub first_work : Script → Work
 first_work script =
     record {

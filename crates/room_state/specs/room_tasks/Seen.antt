@@ -11,7 +11,7 @@ use Rattle.journal_model.specs.rules.Ready.{is_ready}
 use Rattle.journal_model.specs.rules.State.{new_buffer}
 use Rattle.room_representation.specs.room_steps.Lent.{as_buffer}
 
--- a state with the buffers of a table, without their fences, and with their reservations: no more is read
+-- the state with the buffers of a table, without their fences, and with their reservations: tasks depend on no more
 abbrev pub seen : Bos → State
 seen t =
     record {
@@ -24,12 +24,12 @@ seen t =
       courses = [];
     }
 
--- a buffer that the table lends; where there is none, an empty one in SYSTEM
+-- the buffer that the table lends; where there is none, an empty one in SYSTEM
 abbrev pub standing : Option Bo → Buffer
 standing None = new_buffer 0
 standing (Some bo) = as_buffer bo
 
--- a command's buffer isn't in place, or isn't filled
+-- the command's buffer `b` isn't in place, or isn't filled
 unfoldable pub is_unready : Script → Bos → Command → BufId → Bool
 is_unready script t cmd b = not (is_ready script (seen t) cmd b)
 

@@ -25,19 +25,19 @@ use Rattle.journal_model.specs.rules.Waits.{waited_for, jobs_before_read, jobs_b
 use Rattle.room_state.specs.declared.room_turns.Step.{Step}
 use Rattle.room_state.specs.declared.room_turns.Step.TheVariants as step
 
--- a thread's entry of that kind, or its need
+-- the thread's entry of the given kind, or its need
 abbrev pub entry_by : ℕ → Result Kind Need → Result Entry Need
 entry_by thread (Ok k) = Ok (record { who = actor.Thread thread; kind = k })
 entry_by thread (Err n) = Err n
 
--- an entry was made, unless something is needed first
+-- the step that makes an entry, unless something is needed first
 abbrev pub made_unless : Option Need → Step
 made_unless None = step.Made
 made_unless (Some n) = step.Need n
 
 -- ---- locking
 
--- the holder that isn't backed off from
+-- the holder from which the thread doesn't back off
 abbrev pub holder_before : Course → Option Stamp → Option Stamp
 holder_before c None = None
 holder_before c (Some holder) = if backs_off c holder then None else Some holder
@@ -47,27 +47,27 @@ abbrev pub holder_in : State → Course → Task → Option Stamp
 holder_in s c (task.Lock b) = if is_live s b then holder_before c (reservation s b).holder else None
 holder_in s c _ = None
 
--- the same of a thread's task
+-- the holder that the thread's task waits for
 abbrev pub holder_awaited : Script → State → ℕ → Option Stamp
 holder_awaited script s thread = holder_in s (course s thread) (task_of script s thread)
 
 -- ---- acting
 
--- the command itself is at work, once all is held, in place and filled
+-- the command, if it is itself at work: all its buffers are held, in place and filled
 abbrev pub command_in : Option Command → Task → Option Command
 command_in o task.Act = o
 command_in o _ = None
 
--- the same of a thread's task
+-- the thread's command, if it is itself at work
 abbrev pub command_due : Script → State → ℕ → Option Command
 command_due script s thread = command_in (command_at_work script s thread) (task_of script s thread)
 
--- a buffer is freed
+-- the command frees a buffer
 abbrev pub frees : Option Command → Bool
 frees (Some (command.Free b)) = true
 frees _ = false
 
--- a page is swapped out: the buffer has a frame, and a slot is free
+-- the command swaps a page out: its buffer has a frame, and a slot is free
 abbrev pub swaps : Script → State → Option Command → Bool
 swaps script s (Some (command.SwapOut b)) = has_frame (buffer s b) && is_some (free_slot script s.core)
 swaps script s _ = false
@@ -76,7 +76,7 @@ swaps script s _ = false
 abbrev pub free_due : Script → State → ℕ → Bool
 free_due script s thread = frees (command_due script s thread)
 
--- its SwapOut is due
+-- the thread's SwapOut is due
 abbrev pub swap_due : Script → State → ℕ → Bool
 swap_due script s thread = swaps script s (command_due script s thread)
 
@@ -86,7 +86,7 @@ job_before s (Some (command.Write b off bytes)) = waited_for s.core (jobs_before
 job_before s (Some (command.Read b off len)) = waited_for s.core (jobs_before_read (buffer s b))
 job_before s _ = None
 
--- the same of the command that is due
+-- the job that the thread's command waits for, if the command is due
 abbrev pub job_awaited : Script → State → ℕ → Option JobId
 job_awaited script s thread = job_before s (command_due script s thread)
 

@@ -16,33 +16,33 @@ use Rattle.room_state.specs.declared.room_turns.buffer_searches.SearchPlaces.{Se
 use Rattle.room_state.specs.declared.room_turns.buffer_searches.SearchPlaces.TheVariants.{One, Declared}
 use Rattle.room_state.specs.declared.room_turns.buffer_searches.BufferSearch.{BufferSearch}
 
--- the places that are tried
+-- the places that the search tries
 abbrev pub list_of : Script → BufId → SearchPlaces → List FlaggedPlace
 list_of script b (One p) = p ∷ []
 list_of script b Declared = (decl script b).placement.list
 
--- the search, with its list
+-- the search for pages, with its list of places
 abbrev pub place_search_of : Script → BufferSearch → PlaceSearch
 place_search_of script h = record { list = list_of script h.b h.sought; forced = h.forced; dry = h.dry }
 
--- and its buffer
+-- the search as the definitions have it, with its buffer and its list of places
 abbrev pub seen : Script → BufferSearch → searching.BufferSearch
 seen script h = record { b = h.b; place_search = place_search_of script h }
 
--- where a command wants a buffer
+-- where the command wants its buffer
 abbrev pub sought_by : Command → SearchPlaces
 sought_by (command.Move c mem) = One (unflagged (whole mem))
 sought_by (command.SwapOut c) = One (unflagged (whole System))
 sought_by _ = Declared
 
--- the hop through TT: a victim's has come no way
+-- the search for the hop through TT: a victim's is at its beginning
 abbrev pub hop_by : Course → BufId → BufferSearch
 hop_by c b =
     if is_caught c b
     then record { b = b; sought = One (as_fallback (whole Tt)); forced = false; dry = 0 }
     else record { b = b; sought = One (as_fallback (whole Tt)); forced = c.forced; dry = c.dry }
 
--- by where it goes
+-- the search for buffer `b`, by its aim
 abbrev pub buffer_search_by : Command → Course → BufId → SearchAim → BufferSearch
 buffer_search_by cmd c b Asked = record { b = b; sought = sought_by cmd; forced = c.forced; dry = c.dry }
 buffer_search_by cmd c b Hop = hop_by c b

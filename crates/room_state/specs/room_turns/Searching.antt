@@ -16,7 +16,7 @@ use Rattle.journal_model.specs.rules.Dry.{is_long_enough, victim}
 use Rattle.journal_model.specs.rules.Search.{PlaceSearch, place_search, first_choice}
 use Rattle.journal_model.specs.rules.Tasks.{task_of}
 
--- pages are searched for a buffer
+-- a buffer for which pages are searched, and where the search stands
 pub record BufferSearch : Type 0 where
   pub b : BufId
   pub place_search : PlaceSearch
@@ -40,7 +40,7 @@ has_choice script s h =
     not h.place_search.forced && is_some (first_choice script s h.b (first_places h.place_search.list))
     || is_some (choice script s.core h.b (place_at_work h.place_search))
 
--- the same of a thread's search
+-- the thread's search has a choice at a place to try now
 abbrev pub finds_choice : Script → State → ℕ → Bool
 finds_choice script s thread = elim (buffer_search_of script s thread) [ Some h ↦ has_choice script s h | None ↦ false ]
 
@@ -52,6 +52,6 @@ victim_for script s thread h =
       | false ↦ None
     ]
 
--- the same of a thread's search
+-- the buffer to evict for the thread's search, if there is one
 abbrev pub victim_of : Script → State → ℕ → Option BufId
 victim_of script s thread = option_and_then (victim_for script s thread) (buffer_search_of script s thread)

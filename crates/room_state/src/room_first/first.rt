@@ -22,7 +22,7 @@ use swap_store::SwapStore;
 use ttm_base::NoMemory;
 use ww_ticket::Tickets;
 
-/// How many groups of buffers there are.
+/// The number of groups of buffers.
 const GROUPS: u32 = 16;
 
 /// The buffers, and their lists in eviction order.
@@ -32,7 +32,7 @@ struct Buffers {
     lru: Lru,
 }
 
-/// Pages, frames and slots: who holds them, and their bytes.
+/// Pages, frames and slots: which of them are held, by what, and their bytes.
 #[derive(Drop)]
 struct Memory {
     vram: VramRoom,
@@ -42,7 +42,7 @@ struct Memory {
     stores: Stores,
 }
 
-/// What engines and threads are at.
+/// The state of engines and threads.
 #[derive(Drop)]
 struct Work {
     line: Timeline,
@@ -50,7 +50,7 @@ struct Work {
     courses: Courses,
 }
 
-/// How VRAM's pages are kept.
+/// Returns how VRAM's pages are kept: as buddy blocks where `sizes` asks for them, else as ranges.
 fn pages_kind(sizes: &Sizes) -> PagesKind
     ensures { result ≡ kind_of sizes.now.buddy }
 {
@@ -61,7 +61,7 @@ fn pages_kind(sizes: &Sizes) -> PagesKind
     }
 }
 
-/// Pages of zeros, and an aperture that maps nothing.
+/// Makes VRAM and frames with pages of zeros, and an aperture that maps nothing.
 fn first_stores(alloc: Global, sizes: &Sizes) -> Result<Stores, NoMemory>
     ensures { IfOk result (λ stores. stores ≡ first.first_stores sizes.now) }
 {
@@ -71,7 +71,7 @@ fn first_stores(alloc: Global, sizes: &Sizes) -> Result<Stores, NoMemory>
     Ok(Stores { vram, frames, aper })
 }
 
-/// All pages, frames and slots free.
+/// Makes the managers of pages, frames and slots, with all of them free.
 fn first_memory(alloc: Global, sizes: &Sizes) -> Result<Memory, NoMemory>
     ensures { IfOk result (λ memory. memory ≡ first.first_memory sizes.now) }
 {
@@ -90,7 +90,7 @@ fn first_memory(alloc: Global, sizes: &Sizes) -> Result<Memory, NoMemory>
     })
 }
 
-/// All buffers dead, and all lists empty.
+/// Makes the table of buffers with all buffers dead, and the LRU lists, all empty.
 fn first_buffers(alloc: Global, script: &Script) -> Result<Buffers, NoMemory>
     requires engines { script.now.sizes.engines ≤ 8 }
     requires buffers { length script.now.buffers ≤ 256 }
@@ -101,7 +101,7 @@ fn first_buffers(alloc: Global, script: &Script) -> Result<Buffers, NoMemory>
     Ok(Buffers { bos, lru })
 }
 
-/// Each thread at its first command.
+/// Makes a course for each of `threads`, which is at its first command.
 fn first_courses(alloc: Global, threads: &[Commands]) -> Result<Courses, NoMemory>
     ensures { IfOk result (λ courses. courses ≡ map (λ commands. words.new_course 0) threads.now) }
 {
@@ -112,7 +112,7 @@ fn first_courses(alloc: Global, threads: &[Commands]) -> Result<Courses, NoMemor
     Ok(courses)
 }
 
-/// No job, and each thread at its first command.
+/// Makes the timeline and the rings without a job, and puts each thread at its first command.
 fn first_work(alloc: Global, script: &Script) -> Result<Work, NoMemory>
     requires { script.now.sizes.engines ≤ 8 }
     ensures { IfOk result (λ work. work ≡ first.first_work script.now) }
@@ -127,7 +127,7 @@ fn first_work(alloc: Global, script: &Script) -> Result<Work, NoMemory>
     })
 }
 
-/// All buffers dead, all pages, frames and slots free, no job, and each thread at its first command.
+/// Makes the parts for the start of a run: all buffers dead, all pages, frames and slots free, no job, and each thread at its first command.
 ///
 /// # Errors
 ///

@@ -15,7 +15,7 @@ pub(crate) struct Mentions<'a> {
     pub ops: &'a [Op],
 }
 
-/// What a command mentions.
+/// Returns the buffers that `command` mentions.
 pub(crate) fn mentions_of(command: &Command) -> Mentions<'_>
     ensures { mentioned result.own result.ops.now ≡ mentioned_by command.now }
 {
@@ -47,7 +47,7 @@ pub(crate) fn mentions_of(command: &Command) -> Mentions<'_>
     }
 }
 
-/// The buffers of an operation, as they are mentioned.
+/// Returns the buffers of an operation, in the order in which they are mentioned.
 pub(crate) fn buffers_of(op: &Op) -> (BufId, Option<BufId>)
     ensures { result.0 ∷ option_to_list result.1 ≡ buffers_of_op op.now }
 {
@@ -58,7 +58,7 @@ pub(crate) fn buffers_of(op: &Op) -> (BufId, Option<BufId>)
     }
 }
 
-/// The first buffer of an operation that isn't held.
+/// Returns the first buffer of `op` that isn't in `held`.
 fn unheld_of(held: &[BufId], op: &Op) -> Option<BufId>
     ensures { result ≡ find (λ b. not (state.has_buffer held.now b)) (buffers_of_op op.now) }
 {
@@ -72,7 +72,7 @@ fn unheld_of(held: &[BufId], op: &Op) -> Option<BufId>
     }
 }
 
-/// The first buffer of operations that isn't held.
+/// Returns the first buffer of `ops` that isn't in `held`.
 fn unheld_in(held: &[BufId], ops: &[Op]) -> Option<BufId>
     ensures { result ≡ find (λ b. not (state.has_buffer held.now b)) (flat_map buffers_of_op ops.now) }
 {
@@ -85,7 +85,7 @@ fn unheld_in(held: &[BufId], ops: &[Op]) -> Option<BufId>
     None
 }
 
-/// The first named buffer that isn't held. Takes time by the command's operations and the held buffers.
+/// Returns the first buffer named by `command` that isn't in `held`. Takes time by the command's operations and the held buffers.
 fn first_unheld(held: &[BufId], command: &Command) -> Option<BufId>
     ensures { result ≡ find (λ b. not (state.has_buffer held.now b)) (named command.now) }
 {
@@ -96,7 +96,7 @@ fn first_unheld(held: &[BufId], command: &Command) -> Option<BufId>
     }
 }
 
-/// The next buffer to reserve: that of the last backoff first, then the named ones.
+/// Returns the next buffer to reserve: that of the last backoff first, then the named ones. None means that the thread holds them all.
 pub fn first_missing(course: &Course, command: &Command) -> Option<BufId>
     ensures { result ≡ words.first_missing course.now command.now }
 {

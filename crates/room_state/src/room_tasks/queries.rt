@@ -16,7 +16,7 @@ use room_representation::Parts;
 use state_words::commands_of;
 use ttm_base::{BufId, Deny};
 
-/// The course of a thread, if the thread is there. Threads are numbered from 1.
+/// Returns the course of `thread`, or None where there is no such thread. Threads are numbered from 1.
 fn course_of(courses: &Courses, thread: u32) -> Option<&Course>
     ensures { option_copied result ≡ course_at courses.now thread }
 {
@@ -27,14 +27,15 @@ fn course_of(courses: &Courses, thread: u32) -> Option<&Course>
     }
 }
 
-/// The command that a thread is at, if one is left.
+/// Returns the command that `thread` is at, or None where none is left.
 fn command_of<'a>(script: &'a Script, course: &Course, thread: u32) -> Option<&'a Command>
     ensures { option_copied result ≡ slice_get (commands.commands_of script.now thread) course.now.answered }
 {
     commands_of(script, thread).get(course.answered as usize)
 }
 
-/// The named buffer at work: the first that isn't ready. Takes time by the command's operations, and by the spans and places of their buffers.
+/// Returns the first buffer named by `command` that isn't ready: the one at work. Takes time by the command's operations, and by the spans and
+/// places of their buffers.
 pub fn first_unready(
     parts: &Parts,
     script: &Script,
@@ -47,7 +48,7 @@ pub fn first_unready(
     unready(script, &parts.bos, command)
 }
 
-/// What a command may not ask of its buffer. Takes constant time.
+/// Returns why `command` must be refused for the pins of its buffer, if it must. Takes constant time.
 pub fn forbidden(
     parts: &Parts,
     script: &Script,
@@ -60,7 +61,7 @@ pub fn forbidden(
     refusal(&parts.bos, command)
 }
 
-/// Something that a search took for a buffer can be given back. Takes constant time.
+/// Returns whether something that a search took for buffer `b` can be given back. Takes constant time.
 pub fn gives_back(parts: &Parts, script: &Script, before: &[Entry], b: BufId) -> bool
     requires { AreHeld script.now before.now parts.now }
     ensures { result ≡ words.gives_back (buffer (state_of script.now before.now) b) }
@@ -68,8 +69,8 @@ pub fn gives_back(parts: &Parts, script: &Script, before: &[Entry], b: BufId) ->
     can_give(live(&parts.bos, b))
 }
 
-/// What a thread has to do next: nothing, where there is no such thread. Takes time by the operations of its command and the buffers that it
-/// holds, and by the spans and places of named buffers.
+/// Returns what `thread` has to do next, which is nothing where there is no such thread. Takes time by the operations of its command and the buffers
+/// that it holds, and by the spans and places of named buffers.
 pub fn task_of(parts: &Parts, script: &Script, before: &[Entry], thread: u32) -> Task
     requires { AreHeld script.now before.now parts.now }
     ensures { result ≡ words.task_of script.now (state_of script.now before.now) thread }

@@ -11,7 +11,7 @@ use journal_model::{Command, Script};
 use state_words::{compatible, declared_places, same_mem, size_of};
 use ttm_base::{BufId, Mem, Op};
 
-/// The buffer stands where its declared placement lets it.
+/// Returns whether the buffer stands where its declared placement lets it.
 fn is_well_placed(script: &Script, b: BufId, bo: Option<&Bo>) -> bool
     ensures { result ≡ words.is_well_placed script.now b (standing (option_copied bo.entry)) }
 {
@@ -24,7 +24,7 @@ fn is_well_placed(script: &Script, b: BufId, bo: Option<&Bo>) -> bool
     )
 }
 
-/// The buffer stands where the command wants it.
+/// Returns whether the buffer stands where `command` wants it.
 fn meets(script: &Script, command: &Command, b: BufId, bo: Option<&Bo>) -> bool
     ensures { result ≡ words.meets script.now command.now b (standing (option_copied bo.entry)) }
 {
@@ -36,14 +36,14 @@ fn meets(script: &Script, command: &Command, b: BufId, bo: Option<&Bo>) -> bool
     }
 }
 
-/// No target, and it stands where the command wants it.
+/// Returns whether the buffer has no target and stands where `command` wants it.
 pub(crate) fn is_in_place(script: &Script, command: &Command, b: BufId, bo: Option<&Bo>) -> bool
     ensures { result ≡ words.is_in_place script.now command.now b (standing (option_copied bo.entry)) }
 {
     !has_some_target(bo) && meets(script, command, b, bo)
 }
 
-/// The command reads or writes the buffer's bytes.
+/// Returns whether `command` reads or writes the bytes of its buffers.
 fn uses_bytes(command: &Command) -> bool
     ensures { result ≡ words.uses_bytes command.now }
 {
@@ -53,14 +53,14 @@ fn uses_bytes(command: &Command) -> bool
     )
 }
 
-/// In SYSTEM, each page that the command may use has a frame.
+/// Returns whether each page that `command` may use has a frame, where the buffer stands in SYSTEM.
 fn is_filled(command: &Command, bo: Option<&Bo>) -> bool
     ensures { result ≡ words.is_filled command.now (standing (option_copied bo.entry)) }
 {
     !uses_bytes(command) || !same_mem(mem_of(bo), Mem::System) || has_all_frames(bo)
 }
 
-/// In place and filled.
+/// Returns whether buffer `b` is in place and filled.
 fn is_ready(script: &Script, bos: &BoTable, command: &Command, b: BufId) -> bool
     requires { HasReservations bos.now }
     ensures { result ≡ words.is_ready script.now (seen bos.now) command.now b }
@@ -69,7 +69,7 @@ fn is_ready(script: &Script, bos: &BoTable, command: &Command, b: BufId) -> bool
     is_in_place(script, command, b, bo) && is_filled(command, bo)
 }
 
-/// The first buffer of an operation that isn't ready.
+/// Returns the first buffer of `op` that isn't ready.
 #[tactic(auto, unfolding(crate::specs::room_tasks::Seen::is_unready))]
 fn unready_of(script: &Script, bos: &BoTable, command: &Command, op: &Op) -> Option<BufId>
     requires { HasReservations bos.now }
@@ -85,7 +85,7 @@ fn unready_of(script: &Script, bos: &BoTable, command: &Command, op: &Op) -> Opt
     }
 }
 
-/// The first buffer of operations that isn't ready.
+/// Returns the first buffer of `ops` that isn't ready.
 fn unready_in(script: &Script, bos: &BoTable, command: &Command, ops: &[Op]) -> Option<BufId>
     requires { HasReservations bos.now }
     ensures { result ≡ find (is_unready script.now bos.now command.now) (flat_map buffers_of_op ops.now) }
@@ -99,7 +99,7 @@ fn unready_in(script: &Script, bos: &BoTable, command: &Command, ops: &[Op]) -> 
     None
 }
 
-/// The named buffer at work: the first that isn't ready.
+/// Returns the first buffer named by `command` that isn't ready: the one at work.
 pub(crate) fn unready(script: &Script, bos: &BoTable, command: &Command) -> Option<BufId>
     requires { HasReservations bos.now }
     ensures { result ≡ words.first_unready script.now (seen bos.now) command.now }

@@ -9,7 +9,7 @@ use bo_table::{Bo, BoTable};
 use state_words::target_of;
 use ttm_base::{BufId, Mem, Span};
 
-/// The buffer, if it is live. None stands for an empty buffer in SYSTEM.
+/// Returns buffer `b` if it is live. None stands for an empty buffer in SYSTEM.
 pub(crate) fn live(bos: &BoTable, b: BufId) -> Option<&Bo>
     requires { HasReservations bos.now }
     ensures { standing (option_copied result) ≡ state.buffer (seen bos.now) b }
@@ -21,7 +21,7 @@ pub(crate) fn live(bos: &BoTable, b: BufId) -> Option<&Bo>
     if bo.alive { Some(bo) } else { None }
 }
 
-/// How often a buffer is pinned.
+/// Returns how often buffer `b` is pinned.
 pub(crate) fn pins(bos: &BoTable, b: BufId) -> u8
     requires { HasReservations bos.now }
     ensures { result ≡ (state.reservation (seen bos.now) b).pins }
@@ -33,7 +33,7 @@ pub(crate) fn pins(bos: &BoTable, b: BufId) -> u8
     }
 }
 
-/// Where a buffer stands.
+/// Returns the memory type in which a buffer stands.
 pub(crate) fn mem_of(bo: Option<&Bo>) -> Mem
     ensures { result ≡ (standing (option_copied bo.entry)).mem }
 {
@@ -43,7 +43,7 @@ pub(crate) fn mem_of(bo: Option<&Bo>) -> Mem
     }
 }
 
-/// Its pages there.
+/// Returns the pages of a buffer where it stands.
 pub(crate) fn spans_of(bo: Option<&Bo>) -> &[Span]
     ensures { result.now ≡ (standing (option_copied bo.entry)).spans }
 {
@@ -53,7 +53,7 @@ pub(crate) fn spans_of(bo: Option<&Bo>) -> &[Span]
     }
 }
 
-/// A buffer has a target in a memory type.
+/// Returns whether a buffer has a target in the memory type `mem`.
 pub(crate) fn has_target(mem: Mem, bo: Option<&Bo>) -> bool
     ensures { result ≡ state.has_target mem (standing (option_copied bo.entry)) }
 {
@@ -63,14 +63,14 @@ pub(crate) fn has_target(mem: Mem, bo: Option<&Bo>) -> bool
     }
 }
 
-/// Something waits for a buffer.
+/// Returns whether a buffer has a target in some memory type.
 pub(crate) fn has_some_target(bo: Option<&Bo>) -> bool
     ensures { result ≡ words.has_some_target (standing (option_copied bo.entry)) }
 {
     has_target(Mem::System, bo) || has_target(Mem::Tt, bo) || has_target(Mem::Vram, bo)
 }
 
-/// Some page of a buffer has a frame. In constant time.
+/// Returns whether some page of a buffer has a frame. Takes constant time.
 pub(crate) fn has_frame(bo: Option<&Bo>) -> bool
     ensures { result ≡ dry.has_frame (standing (option_copied bo.entry)) }
 {
@@ -80,7 +80,7 @@ pub(crate) fn has_frame(bo: Option<&Bo>) -> bool
     }
 }
 
-/// Each page of a buffer has a frame. In constant time.
+/// Returns whether each page of a buffer has a frame. Takes constant time.
 pub(crate) fn has_all_frames(bo: Option<&Bo>) -> bool
     ensures { result ≡ words.has_all_frames (standing (option_copied bo.entry)) }
 {

@@ -15,7 +15,7 @@ use journal_model::{Command, Course, Script, SearchAim, Stage, Task, Victim, Why
 use state_words::same_mem;
 use ttm_base::{BufId, Deny, Mem};
 
-/// New and touch take no ticket; each other command begins with one.
+/// Returns whether a ticket comes first. New and touch take none; each other command begins with one.
 fn starts(course: &Course, command: &Command) -> bool
     ensures { result ≡ words.starts course.now command.now }
 {
@@ -25,7 +25,7 @@ fn starts(course: &Course, command: &Command) -> bool
     }
 }
 
-/// Fill first, where a page has no frame.
+/// Returns the task `next`, or that of filling buffer `b` first where a page has no frame.
 fn filled_then(next: Task, b: BufId, bo: Option<&Bo>) -> Task
     ensures { result ≡ words.filled_then next b (standing (option_copied bo.entry)) }
 {
@@ -36,14 +36,15 @@ fn filled_then(next: Task, b: BufId, bo: Option<&Bo>) -> Task
     }
 }
 
-/// Something that a search took can be given back.
+/// Returns whether something that a search took for the buffer can be given back.
 pub(crate) fn can_give(bo: Option<&Bo>) -> bool
     ensures { result ≡ words.gives_back (standing (option_copied bo.entry)) }
 {
     (same_mem(mem_of(bo), Mem::Vram) && has_frame(bo)) || has_some_target(bo)
 }
 
-/// A victim that is to leave VRAM: through TT, or it gives back what its search took and is skipped.
+/// Returns what to do with a victim that is to leave VRAM: it goes through TT, or, where its search has failed, gives back what the search took and
+/// is skipped.
 fn task_in_vram(victim: Victim, bo: Option<&Bo>) -> Task
     ensures { result ≡ words.task_in_vram victim (standing (option_copied bo.entry)) }
 {
@@ -64,7 +65,7 @@ fn task_in_vram(victim: Victim, bo: Option<&Bo>) -> Task
     }
 }
 
-/// The last of these victims.
+/// Returns the last victim of `caught`.
 #[tactic(auto, using(crate::proofs::room_tasks::LastLaws::last_of_at))]
 fn last_caught(caught: &[Victim]) -> Option<Victim>
     ensures { result ≡ last_of caught.now }
@@ -72,7 +73,7 @@ fn last_caught(caught: &[Victim]) -> Option<Victim>
     caught.last().copied()
 }
 
-/// What is to be done with the last victim that was caught.
+/// Returns what to do with the last victim that was caught.
 fn task_of_victim(victim: Victim, bo: Option<&Bo>) -> Task
     ensures { result ≡ words.task_of_victim victim (standing (option_copied bo.entry)) }
 {
@@ -91,7 +92,7 @@ fn task_of_victim(victim: Victim, bo: Option<&Bo>) -> Task
     }
 }
 
-/// What the command may not ask of its buffer.
+/// Returns why `command` must be refused for the pins of its buffer, if it must.
 pub(crate) fn refusal(bos: &BoTable, command: &Command) -> Option<Deny>
     requires { HasReservations bos.now }
     ensures { result ≡ words.forbidden (seen bos.now) command.now }
@@ -105,7 +106,7 @@ pub(crate) fn refusal(bos: &BoTable, command: &Command) -> Option<Deny>
     }
 }
 
-/// A search failed: the buffer at work gives back what it took, and the command is refused.
+/// Returns what to do after a search failed: the buffer at work gives back what it took, and the command is refused.
 fn task_of_failed(script: &Script, bos: &BoTable, command: &Command, deny: Deny) -> Task
     requires { HasReservations bos.now }
     ensures { result ≡ words.task_of_failed script.now (seen bos.now) command.now deny }
@@ -116,7 +117,7 @@ fn task_of_failed(script: &Script, bos: &BoTable, command: &Command, deny: Deny)
     }
 }
 
-/// How a buffer with targets goes on, by where it stands.
+/// Returns how buffer `b`, which has a target, goes on from where it stands.
 fn carried(b: BufId, bo: Option<&Bo>) -> Task
     ensures { result ≡ words.carried (standing (option_copied bo.entry)).mem b (standing (option_copied bo.entry)) }
 {
@@ -153,7 +154,7 @@ fn carried(b: BufId, bo: Option<&Bo>) -> Task
     }
 }
 
-/// A buffer that isn't in place.
+/// Returns what to do with buffer `b`, which isn't in place.
 fn task_of_misplaced(bos: &BoTable, b: BufId, bo: Option<&Bo>) -> Task
     requires { HasReservations bos.now }
     ensures { result ≡ words.task_of_misplaced b (reservation (seen bos.now) b) (standing (option_copied bo.entry)) }
@@ -170,7 +171,7 @@ fn task_of_misplaced(bos: &BoTable, b: BufId, bo: Option<&Bo>) -> Task
     }
 }
 
-/// The named buffer at work.
+/// Returns what to do with the named buffer `b`, which isn't ready.
 fn task_of_unready(script: &Script, bos: &BoTable, command: &Command, b: BufId) -> Task
     requires { HasReservations bos.now }
     ensures { result ≡ words.task_of_unready script.now (seen bos.now) command.now b }
@@ -183,7 +184,7 @@ fn task_of_unready(script: &Script, bos: &BoTable, command: &Command, b: BufId) 
     }
 }
 
-/// What is left once each buffer is held and no victim is caught.
+/// Returns what is left to do once each buffer is held and no victim is caught.
 fn task_of_held(script: &Script, bos: &BoTable, course: &Course, command: &Command) -> Task
     requires { HasReservations bos.now }
     ensures { result ≡ words.task_of_held script.now (seen bos.now) course.now command.now }
@@ -200,7 +201,7 @@ fn task_of_held(script: &Script, bos: &BoTable, course: &Course, command: &Comma
     }
 }
 
-/// The rules in their order.
+/// Returns what the thread has to do next for `command`, by the rules in their order.
 pub(crate) fn task_of_command(
     script: &Script,
     bos: &BoTable,
@@ -225,7 +226,7 @@ pub(crate) fn task_of_command(
     }
 }
 
-/// The group of rules of a task.
+/// Returns the group of rules to which `task` belongs.
 pub fn stage_of(task: Task) -> Stage
     ensures { result ≡ words.stage_of task }
 {

@@ -18,29 +18,29 @@ use journal_model::{Command, Course, Script, SearchAim, Task};
 use state_words::{as_fallback, declared_places, is_caught, unflagged, whole};
 use ttm_base::{BufId, FlaggedPlace, Mem, Place};
 
-/// Where a search looks.
+/// The places where a search looks.
 #[derive(Clone, Copy)]
 pub enum SearchPlaces {
-    /// At one place alone.
+    /// One place alone.
     One(FlaggedPlace),
-    /// Where the buffer is declared to stand.
+    /// The places where the buffer is declared to stand.
     Declared,
 }
 
-/// Where a search stands.
+/// The state of a search for pages.
 #[derive(Clone, Copy)]
 pub struct BufferSearch {
     /// The buffer that looks for pages.
     pub b: BufId,
-    /// Where it looks.
+    /// The places where it looks.
     pub sought: SearchPlaces,
-    /// The search is under pressure.
+    /// Whether the search is under pressure.
     pub forced: bool,
-    /// How many forced places are dry.
+    /// The number of forced places that are dry.
     pub dry: u32,
 }
 
-/// Where a command wants a buffer.
+/// Returns the places where `command` wants its buffer.
 fn sought_by(command: &Command) -> SearchPlaces
     ensures { result ≡ seen_as.sought_by command.now }
 {
@@ -51,7 +51,7 @@ fn sought_by(command: &Command) -> SearchPlaces
     }
 }
 
-/// The hop through TT, for a victim that has come no way, or for another buffer.
+/// Returns the search for the hop through TT: from its beginning for a victim, and at the thread's place for another buffer.
 fn hop_by(course: &Course, b: BufId) -> BufferSearch
     ensures { result ≡ seen_as.hop_by course.now b }
 {
@@ -73,7 +73,7 @@ fn hop_by(course: &Course, b: BufId) -> BufferSearch
     }
 }
 
-/// The search of a buffer for a command.
+/// Returns the search for buffer `b` that `command` needs, with `aim`.
 fn buffer_search_by(command: &Command, course: &Course, b: BufId, aim: SearchAim) -> BufferSearch
     ensures { result ≡ seen_as.buffer_search_by command.now course.now b aim }
 {
@@ -88,7 +88,7 @@ fn buffer_search_by(command: &Command, course: &Course, b: BufId, aim: SearchAim
     }
 }
 
-/// The search of a buffer, whose pages it is a thread's task to find.
+/// Returns the search for buffer `b`, whose pages it is the task of `thread` to find.
 fn buffer_search_for(rooms: &Rooms, thread: u32, b: BufId, aim: SearchAim) -> BufferSearch
     requires { task_of rooms.now.script (state_behind rooms.now) thread ≡ task.Search b aim }
     ensures at { buffer_search_of rooms.now.script (state_behind rooms.now) thread ≡ Some (seen rooms.now.script result) }
@@ -101,7 +101,7 @@ fn buffer_search_for(rooms: &Rooms, thread: u32, b: BufId, aim: SearchAim) -> Bu
     buffer_search_by(command, rooms.course(thread), b, aim)
 }
 
-/// The search at which a thread is.
+/// Returns the search at which `thread` is.
 pub fn buffer_search_at_work(rooms: &Rooms, thread: u32) -> BufferSearch
     requires { stage_of (task_of rooms.now.script (state_behind rooms.now) thread) ≡ stage.Search }
     ensures at { buffer_search_of rooms.now.script (state_behind rooms.now) thread ≡ Some (seen rooms.now.script result) }
@@ -113,7 +113,7 @@ pub fn buffer_search_at_work(rooms: &Rooms, thread: u32) -> BufferSearch
     }
 }
 
-/// How many places a search tries.
+/// Returns the number of places that a search tries.
 pub fn place_count(script: &Script, buffer_search: BufferSearch) -> usize
     ensures { result ≡ length (list_of script.now buffer_search.b buffer_search.sought) }
 {
@@ -123,7 +123,7 @@ pub fn place_count(script: &Script, buffer_search: BufferSearch) -> usize
     }
 }
 
-/// One of the places that a search tries.
+/// Returns the place number `at` of those that a search tries.
 pub fn place_at(script: &Script, buffer_search: BufferSearch, at: usize) -> FlaggedPlace
     requires { at < length (list_of script.now buffer_search.b buffer_search.sought) }
     ensures { slice_get (list_of script.now buffer_search.b buffer_search.sought) at ≡ Some result }
@@ -134,7 +134,7 @@ pub fn place_at(script: &Script, buffer_search: BufferSearch, at: usize) -> Flag
     }
 }
 
-/// The place of a list that is tried under pressure after `dry` others, else all of SYSTEM.
+/// Returns the place of `list` that is tried under pressure after `dry` others, else all of SYSTEM.
 fn forced_place(list: &[FlaggedPlace], dry: u32) -> Place
     ensures { result ≡ unwrap_or (slice_get (forced_places list.now) dry) (all_of System) }
 {
@@ -144,7 +144,7 @@ fn forced_place(list: &[FlaggedPlace], dry: u32) -> Place
     }
 }
 
-/// The forced place at work.
+/// Returns the forced place at which the search is.
 pub fn place_at_work(script: &Script, buffer_search: BufferSearch) -> Place
     ensures { result ≡ words.place_at_work (place_search_of script.now buffer_search) }
 {

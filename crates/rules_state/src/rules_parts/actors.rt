@@ -3,7 +3,7 @@ ghost use Rattle.journal_model.specs.rules.Apply as words;
 
 use ttm_base::Actor;
 
-/// The thread of an actor, or 0.
+/// Returns the number of the thread that `who` is, or 0 if it is no thread.
 pub fn thread_of(who: Actor) -> u32
     ensures { result ≡ words.thread_of who }
 {
@@ -13,7 +13,7 @@ pub fn thread_of(who: Actor) -> u32
     }
 }
 
-/// The context of an actor, or 0.
+/// Returns the context of the engine that `who` is, or 0 if it is no engine.
 pub fn engine_of(who: Actor) -> u32
     ensures { result ≡ words.engine_of who }
 {

@@ -12,7 +12,7 @@ use journal_model::{Buffers, Table, Targets};
 use std::alloc::Global;
 use ttm_base::{BufId, Fence, ItemList, JobId, Loc, Mem, NoMemory, Spans, Usage};
 
-/// Puts another item at `index`, if the list has one there.
+/// Replaces the item at `index` with `item`, if the list has one there.
 pub fn put_item<T: Drop>(items: &mut ItemList<T>, index: u32, item: T)
     ensures { items.new ≡ slice_set items.old index item }
 {
@@ -22,7 +22,7 @@ pub fn put_item<T: Drop>(items: &mut ItemList<T>, index: u32, item: T)
     }
 }
 
-/// Gives a page of a buffer another place, if the buffer is live.
+/// Sets the place of page `page` of buffer `b` to `place`, if the buffer is live and has the page.
 pub fn set_page(buffers: &mut Buffers, b: BufId, page: u32, place: Loc)
     ensures { buffers.new ≡ changed (with_loc page place) buffers.old b }
 {
@@ -36,7 +36,7 @@ pub fn set_page(buffers: &mut Buffers, b: BufId, page: u32, place: Loc)
     }
 }
 
-/// Puts another target, or none, in a memory type.
+/// Sets the target in the memory type `mem` to `spans`, or to none.
 pub fn set_target(targets: &mut Targets, mem: Mem, spans: Option<Spans>)
     ensures { targets.new ≡ with_target mem spans targets.old }
 {
@@ -47,7 +47,8 @@ pub fn set_target(targets: &mut Targets, mem: Mem, spans: Option<Spans>)
     }
 }
 
-/// Gives a buffer a target, if it is live, and a fence that everyone waits for, if there is a job.
+/// Gives buffer `b` the target `spans` in the memory type `mem`, if it is live, and a fence that everyone waits for, if there is a `job`.
+/// Without memory for the fence it leaves `buffers` as they were.
 pub fn give_target(
     buffers: &mut Buffers,
     b: BufId,
@@ -73,7 +74,7 @@ pub fn give_target(
     Ok(())
 }
 
-/// Takes a target from a buffer, if it is live.
+/// Takes the target in the memory type `mem` from buffer `b`, if the buffer is live.
 pub fn drop_target(buffers: &mut Buffers, b: BufId, mem: Mem)
     ensures { buffers.new ≡ changed (with_spans mem None) buffers.old b }
 {
@@ -85,7 +86,7 @@ pub fn drop_target(buffers: &mut Buffers, b: BufId, mem: Mem)
     }
 }
 
-/// The place of a page once its frame was given back.
+/// Returns the place of a page at `place` once its frame was given back: a slot stays.
 fn without_its_frame(place: Loc) -> Loc
     ensures { result ≡ without_frame place }
 {
@@ -95,7 +96,7 @@ fn without_its_frame(place: Loc) -> Loc
     }
 }
 
-/// Takes the frames out of a page table.
+/// Takes the frames out of a page table. Slots stay.
 pub fn drop_frames(table: &mut Table)
     ensures { table.new ≡ map without_frame table.old }
 {
@@ -104,7 +105,7 @@ pub fn drop_frames(table: &mut Table)
     }
 }
 
-/// Takes the frames from a buffer, if it is live.
+/// Takes the frames from buffer `b`, if it is live.
 pub fn depopulate(buffers: &mut Buffers, b: BufId)
     ensures { buffers.new ≡ changed without_frames buffers.old b }
 {
@@ -116,7 +117,7 @@ pub fn depopulate(buffers: &mut Buffers, b: BufId)
     }
 }
 
-/// Sends a victim in TT to SYSTEM.
+/// Gives a live buffer `b` in TT an empty target in SYSTEM, to which the victim goes.
 pub fn leave_tt(alloc: Global, buffers: &mut Buffers, b: BufId)
     ensures { buffers.new ≡ changed (λ x. leaves_tt x.mem x) buffers.old b }
 {
@@ -130,7 +131,7 @@ pub fn leave_tt(alloc: Global, buffers: &mut Buffers, b: BufId)
     }
 }
 
-/// Takes a target out, and gives its spans.
+/// Takes `target` out and returns its spans, none if there is no target.
 fn take_target(alloc: Global, target: &mut Option<Spans>) -> Spans
     ensures value { result ≡ unwrap_or target.old [] }
     ensures after { target.new ≡ None }
@@ -141,7 +142,7 @@ fn take_target(alloc: Global, target: &mut Option<Spans>) -> Spans
     }
 }
 
-/// Carries a buffer from SYSTEM to TT, if it is live.
+/// Carries buffer `b` from SYSTEM to its target in TT, if it is live.
 pub fn bind(alloc: Global, buffers: &mut Buffers, b: BufId)
     ensures { buffers.new ≡ changed bound buffers.old b }
 {
@@ -154,7 +155,7 @@ pub fn bind(alloc: Global, buffers: &mut Buffers, b: BufId)
     }
 }
 
-/// Carries a buffer from TT to SYSTEM, if it is live.
+/// Carries buffer `b` from TT to SYSTEM, if it is live. It has no spans and no target in SYSTEM then.
 pub fn unbind(alloc: Global, buffers: &mut Buffers, b: BufId)
     ensures { buffers.new ≡ changed unbound buffers.old b }
 {
@@ -168,7 +169,7 @@ pub fn unbind(alloc: Global, buffers: &mut Buffers, b: BufId)
     }
 }
 
-/// Takes the last fence from a buffer, if it is live.
+/// Takes the last fence from buffer `b`, if it is live.
 pub fn drop_last_fence(buffers: &mut Buffers, b: BufId)
     ensures { buffers.new ≡ changed without_last_fence buffers.old b }
 {
@@ -180,7 +181,7 @@ pub fn drop_last_fence(buffers: &mut Buffers, b: BufId)
     }
 }
 
-/// Gives a buffer one more fence, if it is live.
+/// Adds the fence of `job` with `usage` to buffer `b`, if it is live. Without memory it leaves `buffers` as they were.
 pub fn add_fence(buffers: &mut Buffers, b: BufId, job: JobId, usage: Usage) -> Result<(), NoMemory>
     ensures ok { OnOk result (buffers.new ≡ changed (with_fence job usage) buffers.old b) }
     ensures err { OnErr result (buffers.new ≡ buffers.old) }
@@ -194,7 +195,8 @@ pub fn add_fence(buffers: &mut Buffers, b: BufId, job: JobId, usage: Usage) -> R
     Ok(())
 }
 
-/// Leaves the frames of a buffer that was in this memory type: out of TT they stay behind.
+/// Takes the frames and slots out of the page table of a buffer that leaves TT, where its frames stay behind. Out of any other memory type
+/// `mem` the table stays as it is.
 fn leave_table(mem: Mem, table: &mut Table)
     ensures { table.new ≡ table_left mem table.old }
 {
@@ -205,7 +207,7 @@ fn leave_table(mem: Mem, table: &mut Table)
     }
 }
 
-/// Takes the target of a memory type out, and gives its spans.
+/// Takes the target of the memory type `mem` out and returns its spans, none if there is no target.
 fn take_spans(alloc: Global, targets: &mut Targets, mem: Mem) -> Spans
     ensures value { result ≡ unwrap_or (target_of mem targets.old) [] }
     ensures after { targets.new ≡ with_target mem None targets.old }
@@ -217,7 +219,8 @@ fn take_spans(alloc: Global, targets: &mut Targets, mem: Mem) -> Spans
     }
 }
 
-/// Carries a buffer to its target in a memory type by a job, if it is live.
+/// Carries buffer `b` to its target in the memory type `mem` by the move `job`, whose fence it adds, if the buffer is live. Without memory
+/// for the fence it leaves `buffers` as they were.
 pub fn carry(
     alloc: Global,
     buffers: &mut Buffers,

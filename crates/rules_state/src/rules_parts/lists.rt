@@ -9,7 +9,7 @@ use journal_model::{BufIds, Buffer, Lists, Reservation, Script};
 use std::alloc::Global;
 use ttm_base::{BufId, Mem, NoMemory};
 
-/// The lists without a buffer.
+/// Returns the lists without buffer `b`.
 pub fn taken_off(alloc: Global, lists: &[BufIds], b: BufId) -> Result<Lists, NoMemory>
     ensures { IfOk result (λ rest. rest ≡ words.taken_off lists.now b) }
 {
@@ -21,7 +21,7 @@ pub fn taken_off(alloc: Global, lists: &[BufIds], b: BufId) -> Result<Lists, NoM
     Ok(rest)
 }
 
-/// Where a buffer comes in a list: after the last of its mates, or at the end.
+/// Returns the position at which `b` comes in `list`: after the last of its mates, or at the end.
 fn place_in(script: &Script, list: &[BufId], b: BufId) -> usize
     ensures { result ≡ unwrap_or (words.behind_last (words.is_mate script.now b) list.now) (length list.now) }
 {
@@ -34,7 +34,7 @@ fn place_in(script: &Script, list: &[BufId], b: BufId) -> usize
     at
 }
 
-/// Puts a buffer into a list after the last of its mates.
+/// Inserts `b` into `list` after the last of its mates, or at the end.
 #[tactic(auto, using(crate::proofs::rules_parts::OrderLaws::behind_last_within))]
 fn put_in(script: &Script, list: &mut BufIds, b: BufId) -> Result<(), NoMemory>
     ensures { OnOk result (list.new ≡ words.placed_in (words.is_mate script.now b) b list.old) }
@@ -43,7 +43,7 @@ fn put_in(script: &Script, list: &mut BufIds, b: BufId) -> Result<(), NoMemory>
     list.insert(at, b)
 }
 
-/// The memory type in whose lists a buffer stands, if any: that of a live buffer without pins.
+/// Returns the memory type in whose lists a buffer stands: that of a live buffer without pins, else `None`.
 pub fn listed_mem(reservation: Reservation, buffer: Option<&Buffer>) -> Option<Mem>
     ensures { result ≡ listing.listed_mem reservation (option_copied buffer.entry) }
 {
@@ -53,7 +53,7 @@ pub fn listed_mem(reservation: Reservation, buffer: Option<&Buffer>) -> Option<M
     }
 }
 
-/// The lists with a buffer on that of a memory type and its priority alone, or on none.
+/// Returns the lists with `b` on the list of the memory type `mem` and the buffer's priority alone, or on none if `mem` is `None`.
 pub fn listed_in(
     alloc: Global,
     script: &Script,
@@ -73,7 +73,7 @@ pub fn listed_in(
     Ok(new)
 }
 
-/// The lists after a live buffer went to a memory type.
+/// Returns the lists after the live buffer `b` went to the memory type `mem`.
 pub fn relisted(
     alloc: Global,
     script: &Script,
@@ -89,7 +89,7 @@ pub fn relisted(
     listed_in(alloc, script, lists, b, listed)
 }
 
-/// The lists after a buffer was touched.
+/// Returns the lists after buffer `b` was touched.
 #[tactic(auto, using(crate::proofs::rules_parts::ListingLaws::listed_as_in))]
 pub fn touched(
     alloc: Global,
@@ -105,7 +105,7 @@ pub fn touched(
     listed_in(alloc, script, lists, b, mem)
 }
 
-/// A second list of the same buffers.
+/// Returns a second list of the same buffers for each of `lists`.
 fn copied(alloc: Global, lists: &[BufIds]) -> Result<Lists, NoMemory>
     ensures { IfOk result (λ copy. copy ≡ lists.now) }
 {
@@ -117,7 +117,7 @@ fn copied(alloc: Global, lists: &[BufIds]) -> Result<Lists, NoMemory>
     Ok(copy)
 }
 
-/// The lists after buffers were touched, one after another.
+/// Returns the lists after the buffers `bs` were touched, one after another.
 pub fn touched_all(
     alloc: Global,
     script: &Script,
@@ -135,7 +135,7 @@ pub fn touched_all(
     Ok(new)
 }
 
-/// Copies a list with the members of a `group` after the others.
+/// Returns a copy of `list` with the members of `group` after the others.
 fn with_members_last(
     alloc: Global,
     script: &Script,
@@ -158,7 +158,7 @@ fn with_members_last(
     Ok(new)
 }
 
-/// The lists, on each the members of a group after the others.
+/// Returns the lists, on each the members of `group` after the others.
 pub fn members_last(
     alloc: Global,
     script: &Script,

@@ -6,7 +6,7 @@ ghost use Rattle.rules_state.specs.rules_parts.Pins.{CanPin, HasPinsLeft};
 use journal_model::{Command, Reservations};
 use ttm_base::{BufId, Stamp};
 
-/// Gives a buffer another holder, or none.
+/// Sets the holder of buffer `b` to `holder`, or to none.
 pub fn set_holder(reservations: &mut Reservations, b: BufId, holder: Option<Stamp>)
     ensures { reservations.new ≡ reservation_changed (with_holder holder) reservations.old b }
 {
@@ -17,7 +17,7 @@ pub fn set_holder(reservations: &mut Reservations, b: BufId, holder: Option<Stam
     }
 }
 
-/// Leaves each of these buffers without a holder.
+/// Takes the holder from each of the buffers `bs`.
 pub fn release_all(reservations: &mut Reservations, bs: &[BufId])
     ensures { reservations.new ≡ released reservations.old bs.now }
 {
@@ -26,7 +26,7 @@ pub fn release_all(reservations: &mut Reservations, bs: &[BufId])
     }
 }
 
-/// Pins a buffer once more.
+/// Pins buffer `b` once more.
 fn pin(reservations: &mut Reservations, b: BufId)
     requires { CanPin reservations.old b }
     ensures { reservations.new ≡ reservation_changed pinned_more reservations.old b }
@@ -38,7 +38,7 @@ fn pin(reservations: &mut Reservations, b: BufId)
     }
 }
 
-/// Pins a buffer once less, if it is pinned.
+/// Unpins buffer `b` once, if it is pinned.
 fn unpin(reservations: &mut Reservations, b: BufId)
     ensures { reservations.new ≡ reservation_changed pinned_less reservations.old b }
 {
@@ -49,7 +49,7 @@ fn unpin(reservations: &mut Reservations, b: BufId)
     }
 }
 
-/// Changes the pins as a command asks.
+/// Changes the pins as `command` asks: any other than a pin or an unpin leaves them as they are.
 pub fn change_pins(reservations: &mut Reservations, command: &Command)
     requires { HasPinsLeft reservations.old (Some command.now) }
     ensures { reservations.new ≡ with_pins (Some command.now) reservations.old }

@@ -9,7 +9,7 @@ pub record Seen : Type 0 where
   pub mapped : List ℕ
   pub regions : List Region
 
--- both say the same
+-- the lists and the definitions say the same
 pub record IsThreadMappings (seen : Seen) (d : ThreadMappings) : Type 0 where
   pub mapped : IsSetOf seen.mapped d.mapped
   pub regions : seen.regions ≡ d.regions

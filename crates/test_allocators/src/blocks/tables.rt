@@ -43,7 +43,7 @@ pub struct Table {
     pub rows: &'static [Row],
 }
 
-/// Those of 12 pages, which are a block of 8 and one of 4, and those of large sizes.
+/// Tables of managers of 12 pages, which are a block of 8 and one of 4, and of large managers.
 pub const TABLES: &[Table] = &[
     SPLIT,
     TRIMMED,
@@ -65,7 +65,7 @@ pub const TABLES: &[Table] = &[
     LARGE_ROOT,
 ];
 
-/// 3 of 12 pages.
+/// A request for 3 of 12 pages.
 const SPLIT: Table = Table {
     size: 12,
     held: &[],
@@ -73,7 +73,7 @@ const SPLIT: Table = Table {
     rows: &[(PLAIN, (0, 12), &[block!(8, 10), block!(10, 11)])],
 };
 
-/// 3 of 12 pages, side by side.
+/// A request for 3 of 12 pages, side by side.
 const TRIMMED: Table = Table {
     size: 12,
     held: &[],
@@ -81,7 +81,7 @@ const TRIMMED: Table = Table {
     rows: &[(CONTIG, (0, 12), &[block!(8, 11)])],
 };
 
-/// The last of 12 pages.
+/// A request for the last of 12 pages.
 const FROM_THE_TOP: Table = Table {
     size: 12,
     held: &[],
@@ -89,7 +89,7 @@ const FROM_THE_TOP: Table = Table {
     rows: &[(TOPDOWN, (0, 12), &[block!(11, 12)])],
 };
 
-/// More of 12 pages than stand in one block, side by side.
+/// A request for more of 12 pages than stand in one block, side by side.
 const NOT_SIDE_BY_SIDE: Table = Table {
     size: 12,
     held: &[],
@@ -97,7 +97,7 @@ const NOT_SIDE_BY_SIDE: Table = Table {
     rows: &[(CONTIG, (0, 12), &[])],
 };
 
-/// 2 pages of a range that ends within a block.
+/// A request for 2 pages of a range that ends within a block.
 const RANGE_OF_SEVEN: Table = Table {
     size: 12,
     held: &[],
@@ -105,7 +105,7 @@ const RANGE_OF_SEVEN: Table = Table {
     rows: &[(TOPDOWN, (0, 7), &[block!(4, 6)])],
 };
 
-/// A page of a range that begins within a block.
+/// A request for a page of a range that begins within a block.
 const RANGE_FROM_FIVE: Table = Table {
     size: 12,
     held: &[],
@@ -113,7 +113,7 @@ const RANGE_FROM_FIVE: Table = Table {
     rows: &[(PLAIN, (5, 12), &[block!(8, 9)])],
 };
 
-/// 8 pages of a range that begins within a block.
+/// A request for 8 pages of a range that begins within a block.
 const RANGE_FROM_ONE: Table = Table {
     size: 12,
     held: &[],
@@ -121,7 +121,7 @@ const RANGE_FROM_ONE: Table = Table {
     rows: &[(PLAIN, (1, 12), &[block!(8, 12), block!(4, 8)])],
 };
 
-/// All 12 pages, of a range that ends past them.
+/// A request for all 12 pages, of a range that ends past them.
 const RANGE_PAST_THE_END: Table = Table {
     size: 12,
     held: &[],
@@ -129,7 +129,7 @@ const RANGE_PAST_THE_END: Table = Table {
     rows: &[(PLAIN, (0, 99), &[block!(0, 8), block!(8, 12)])],
 };
 
-/// More pages than a range has.
+/// A request for more pages than a range has.
 const TOO_SHORT_A_RANGE: Table = Table {
     size: 12,
     held: &[],
@@ -137,7 +137,7 @@ const TOO_SHORT_A_RANGE: Table = Table {
     rows: &[(TOPDOWN, (11, 99), &[])],
 };
 
-/// 24,576 of 65,535 pages, sixteen roots.
+/// Requests for 24,576 of 65,535 pages, sixteen roots.
 const SIXTEEN_ROOTS: Table = Table {
     size: 65_535,
     held: &[],
@@ -170,7 +170,7 @@ const SIXTEEN_ROOTS: Table = Table {
     ],
 };
 
-/// All 65,536 pages; the range of each second row lacks the last.
+/// Requests for all 65,536 pages; the range of each second row lacks the last.
 const ONE_ROOT: Table = Table {
     size: 65_536,
     held: &[],
@@ -187,7 +187,7 @@ const ONE_ROOT: Table = Table {
     ],
 };
 
-/// Half of 65,536 pages, of which one is held.
+/// Requests for half of 65,536 pages, of which one is held.
 const HALF_OF_A_ROOT: Table = Table {
     size: 65_536,
     held: &[100],
@@ -204,7 +204,7 @@ const HALF_OF_A_ROOT: Table = Table {
     ],
 };
 
-/// All 65,537 pages, a root and a page.
+/// Requests for all 65,537 pages, a root and a page.
 const A_ROOT_AND_A_PAGE: Table = Table {
     size: 65_537,
     held: &[],
@@ -229,7 +229,7 @@ const A_ROOT_AND_A_PAGE: Table = Table {
     ],
 };
 
-/// One of 65,537 pages, a root and a page.
+/// Requests for one of 65,537 pages, a root and a page.
 const ONE_PAGE: Table = Table {
     size: 65_537,
     held: &[],
@@ -246,7 +246,7 @@ const ONE_PAGE: Table = Table {
     ],
 };
 
-/// 36,864 of 98,304 pages, two roots.
+/// Requests for 36,864 of 98,304 pages, two roots.
 const TWO_ROOTS: Table = Table {
     size: 98_304,
     held: &[],
@@ -279,7 +279,7 @@ const TWO_ROOTS: Table = Table {
     ],
 };
 
-/// 70,000 of 131,072 pages, of which one in the last part is held.
+/// Requests for 70,000 of 131,072 pages, of which one in the last part is held.
 const ROOT_WITH_A_HELD_PAGE: Table = Table {
     size: 131_072,
     held: &[100_000],
@@ -342,7 +342,7 @@ const ROOT_WITH_A_HELD_PAGE: Table = Table {
     ],
 };
 
-/// 70,000 of 131,072 pages.
+/// Requests for 70,000 of 131,072 pages.
 const FREE_ROOT: Table = Table {
     size: 131_072,
     held: &[],
@@ -403,7 +403,7 @@ const FREE_ROOT: Table = Table {
     ],
 };
 
-/// 1,500,000 of 8,388,608 pages, of which two are held.
+/// Requests for 1,500,000 of 8,388,608 pages, of which two are held.
 const LARGE_ROOT: Table = Table {
     size: 8_388_608,
     held: &[0, 6_000_000],

@@ -9,7 +9,7 @@ pub fn accounts_in(rooms: &Rooms) -> Accounts {
     accounts_of(rooms.parts(), rooms.script(), rooms.journal())
 }
 
-/// The account that a manager keeps.
+/// Returns the account that a manager keeps.
 fn account_of(lengths: Lengths) -> Account {
     Account {
         free: lengths.free as u64,
@@ -19,7 +19,7 @@ fn account_of(lengths: Lengths) -> Account {
     }
 }
 
-/// Tells whether the counts are the same.
+/// Returns whether the counts of both accounts are the same.
 fn is_same_account(one: &Account, other: &Account) -> bool {
     one.free == other.free
         && one.live == other.live
@@ -27,7 +27,7 @@ fn is_same_account(one: &Account, other: &Account) -> bool {
         && one.ghosts == other.ghosts
 }
 
-/// Tells whether all counts are the same.
+/// Returns whether all counts of both are the same.
 pub fn are_same_accounts(one: &Accounts, other: &Accounts) -> bool {
     is_same_account(&one.vram, &other.vram)
         && is_same_account(&one.tt, &other.tt)
@@ -35,7 +35,7 @@ pub fn are_same_accounts(one: &Accounts, other: &Accounts) -> bool {
         && is_same_account(&one.swap, &other.swap)
 }
 
-/// Tells whether the managers and the pool keep these counts.
+/// Returns whether the managers and the pool keep these counts.
 pub fn are_kept(parts: &Parts, accounts: &Accounts) -> bool {
     is_same_account(&account_of(parts.vram.lengths()), &accounts.vram)
         && is_same_account(&account_of(parts.tt.lengths()), &accounts.tt)

@@ -5,17 +5,17 @@ use device_core::Device;
 use room_representation::Parts;
 use rules_stores::{PlainStores, StorePage};
 
-/// Bytes of a page.
+/// The bytes of a page.
 const PAGE: u64 = 4096;
 
-/// Tells whether the stores have these bytes on a page.
+/// Returns whether `stores` have these bytes on `page`.
 fn is_same_page(stores: &PlainStores, page: StorePage, bytes: &[u8]) -> bool {
     let mut wanted = [0; PAGE as usize];
     stores.read(page, 0, &mut wanted);
     bytes == wanted.as_slice()
 }
 
-/// Each page of VRAM.
+/// Goes on only if each page of VRAM has the bytes of `stores`.
 fn compare_vram(parts: &Parts, pages: u32, stores: &PlainStores) -> Result<(), Stop>
     requires vram { length parts.now.stores.vram ≡ 4096 * pages }
 {
@@ -27,7 +27,7 @@ fn compare_vram(parts: &Parts, pages: u32, stores: &PlainStores) -> Result<(), S
     Ok(())
 }
 
-/// Each frame.
+/// Goes on only if each frame has the bytes of `stores`.
 fn compare_frames(parts: &Parts, frames: u32, stores: &PlainStores) -> Result<(), Stop>
     requires frames { length parts.now.stores.frames ≡ 4096 * frames }
 {
@@ -39,7 +39,7 @@ fn compare_frames(parts: &Parts, frames: u32, stores: &PlainStores) -> Result<()
     Ok(())
 }
 
-/// Each slot, be it held or free.
+/// Goes on only if each slot, held or free, has the bytes of `stores`.
 fn compare_slots(parts: &Parts, slots: u32, stores: &PlainStores) -> Result<(), Stop>
     requires slots { length parts.now.swap.held ≡ slots }
 {
@@ -51,7 +51,7 @@ fn compare_slots(parts: &Parts, slots: u32, stores: &PlainStores) -> Result<(), 
     Ok(())
 }
 
-/// Goes on only if each page, frame and slot of a device has these bytes.
+/// Goes on only if each page, frame and slot of `device` has the bytes of `stores`.
 pub fn compare_bytes(device: &Device, stores: &PlainStores) -> Result<(), Stop> {
     let sizes = device.script().sizes;
     let parts = device.rooms().parts();

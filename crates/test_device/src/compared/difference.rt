@@ -9,7 +9,7 @@ pub struct Difference {
     pub number: Option<u64>,
 }
 
-/// Why a case ends early.
+/// The reason why a case ends early.
 #[derive(Clone, Copy)]
 pub enum Stop {
     Differs(Difference),
@@ -24,7 +24,7 @@ impl From<NoMemory> for Stop {
     }
 }
 
-/// Goes on only if what both tell is the same.
+/// Goes on only if what both tell is the same, else names `what` differs.
 pub fn agree(is_same: bool, what: &'static str) -> Result<(), Stop> {
     if is_same {
         Ok(())
@@ -33,7 +33,7 @@ pub fn agree(is_same: bool, what: &'static str) -> Result<(), Stop> {
     }
 }
 
-/// Goes on only if what both tell of the part of this number is the same.
+/// Goes on only if what both tell of the part numbered `number` is the same, else names `what` differs.
 pub fn agree_on(is_same: bool, what: &'static str, number: u64) -> Result<(), Stop> {
     if is_same {
         Ok(())

@@ -15,11 +15,11 @@ use std::alloc::Global;
 use test_cases::When;
 use ttm_base::{Actor, Logged, NoMemory, Turn};
 
-/// A device on its parts that is asked once more where memory was short.
+/// A device on its parts that is asked once more where memory was lacking.
 #[derive(Drop)]
 pub struct Asked {
     pub device: Device,
-    /// How many turns it couldn't take for lack of memory, and took when it was asked again.
+    /// The number of turns that it couldn't take for lack of memory, and took when it was asked again.
     pub refused: u64,
 }
 
@@ -30,11 +30,11 @@ pub struct Pair {
     pub when: When,
     pub asked: Asked,
     pub replay: Replay,
-    /// How many turns were taken on both.
+    /// The number of turns that were taken on both.
     pub turns: u64,
 }
 
-/// The greatest number of a job of the context `ctx` that an entry of a journal ends, or 0.
+/// Returns the greatest number of a job of the context `ctx` that an entry of `journal` ends, or 0.
 fn last_done(journal: &[Entry], ctx: u32) -> u64 {
     let mut most = 0;
     for entry in journal {
@@ -48,7 +48,7 @@ fn last_done(journal: &[Entry], ctx: u32) -> u64 {
 }
 
 impl Asked {
-    /// A turn of an actor.
+    /// Takes a turn of `who`.
     fn step(&mut self, who: Actor) -> Result<Turn, NoMemory> {
         match self.device.step(who) {
             Ok(turn) => Ok(turn),
@@ -59,7 +59,7 @@ impl Asked {
         }
     }
 
-    /// A turn in the simulator's order.
+    /// Takes a turn in the simulator's order.
     fn step_next(&mut self) -> Result<Option<Actor>, NoMemory> {
         match self.device.step_next() {
             Ok(found) => Ok(found),
@@ -71,7 +71,7 @@ impl Asked {
     }
 }
 
-/// The device on its parts for a text; none, where that is no script.
+/// Makes the device on its parts for a text, or returns `None` where that is no script.
 ///
 /// # Errors
 ///
@@ -85,7 +85,7 @@ fn device_for(alloc: Global, text: &[u8]) -> Result<Option<Device>, NoMemory> {
 }
 
 impl Pair {
-    /// All of a text; none, where that is no script.
+    /// Makes all devices and parts of a text, or returns `None` where that is no script.
     ///
     /// # Errors
     ///
@@ -108,7 +108,7 @@ impl Pair {
         }
     }
 
-    /// The last job of each context that is done.
+    /// Compares the last job of each context that is done.
     fn compare_done(&self) -> Result<(), Stop> {
         let device = &self.asked.device;
         let journal = self.replay.plain.journal();
@@ -119,7 +119,7 @@ impl Pair {
         Ok(())
     }
 
-    /// What is to be the same after a turn: the number of entries, whether all is over, how far the contexts are.
+    /// Compares what is to be the same after a turn: the number of entries, whether all is over, how far the contexts are.
     fn compare_turn(&self) -> Result<(), Stop> {
         let device = &self.asked.device;
         let plain = &self.replay.plain;
@@ -129,7 +129,8 @@ impl Pair {
         self.compare_done()
     }
 
-    /// What is to be the same at the start and after an entry: beside that, what the parts tell, if they are compared then.
+    /// Compares what is to be the same at the start and after an entry: what is the same after a turn, and what the parts tell, if they are
+    /// compared then.
     ///
     /// # Errors
     ///
@@ -144,7 +145,7 @@ impl Pair {
         }
     }
 
-    /// A turn of an actor on both devices.
+    /// Takes a turn of `who` on both devices.
     ///
     /// # Errors
     ///
@@ -164,7 +165,7 @@ impl Pair {
         Ok(turn)
     }
 
-    /// A turn in the simulator's order on both devices: whose it was, if somebody has an entry.
+    /// Takes a turn in the simulator's order on both devices, and returns whose it was, if some actor has an entry.
     ///
     /// # Errors
     ///
@@ -183,21 +184,21 @@ impl Pair {
         Ok(who)
     }
 
-    /// The report of the plain device.
+    /// Writes the report of the plain device.
     fn report_by_definitions(&self) -> Result<MemSink, NoMemory> {
         let plain = &self.replay.plain;
         let accounts = accounts_of(self.alloc, plain.script(), plain.state())?;
         report_of(self.alloc, plain.script(), plain.journal(), &accounts)
     }
 
-    /// The report of the device on its parts.
+    /// Writes the report of the device on its parts.
     pub fn report_on_parts(&self) -> Result<MemSink, NoMemory> {
         let device = &self.asked.device;
         let accounts = device.accounts();
         report_of(self.alloc, device.script(), device.journal(), &accounts)
     }
 
-    /// All entries, results and accounts.
+    /// Compares all entries, results and accounts.
     fn compare_told(&self) -> Result<(), Stop> {
         let wanted = self.report_by_definitions()?;
         let here = self.report_on_parts()?;
@@ -210,7 +211,7 @@ impl Pair {
         }
     }
 
-    /// What is to be the same after all turns: all entries, results, accounts and bytes, and what the parts tell.
+    /// Compares what is to be the same after all turns: all entries, results, accounts and bytes, and what the parts tell.
     ///
     /// # Errors
     ///

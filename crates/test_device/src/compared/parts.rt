@@ -17,10 +17,10 @@ use rules_stores::StorePage;
 use std::alloc::Global;
 use ttm_base::{BufId, JobId, Mem, PagePlace, Usage};
 
-/// Bytes of a page.
+/// The bytes of a page.
 const PAGE: u32 = 4096;
 
-/// Bytes that are shown at once.
+/// The number of bytes that are shown at once.
 const PIECE: u32 = 256;
 
 /// Compares `PIECE` bytes of a page of a live buffer, from `off` on.
@@ -57,7 +57,7 @@ fn compare_pages(replay: &Replay, b: BufId, seen: &mut ProbeBytes) -> Result<(),
     Ok(())
 }
 
-/// The jobs to wait for before a live buffer is used.
+/// Compares the jobs to wait for before a live buffer is used.
 fn compare_needs(replay: &Replay, b: BufId, buffer: &Buffer) -> Result<(), Stop>
     requires { b.0 < length replay.now.rooms.script.buffers }
 {
@@ -68,12 +68,12 @@ fn compare_needs(replay: &Replay, b: BufId, buffer: &Buffer) -> Result<(), Stop>
     agree_on(same, "other jobs before buffer", u64::from(b.0))
 }
 
-/// The table has a live buffer of that number.
+/// Returns whether the table has a live buffer of that number.
 fn is_alive(bos: &BoTable, b: BufId) -> bool {
     (b.0 as usize) < bos.len() && bos.get(b).alive
 }
 
-/// What is to be known of a buffer.
+/// Compares what is to be known of buffer `b`.
 fn compare_buffer(replay: &Replay, b: BufId, seen: &mut ProbeBytes) -> Result<(), Stop>
     requires step { AreInStep replay.now.plain replay.now.rooms }
     requires declared { b.0 < length replay.now.rooms.script.buffers }
@@ -88,7 +88,7 @@ fn compare_buffer(replay: &Replay, b: BufId, seen: &mut ProbeBytes) -> Result<()
     Ok(())
 }
 
-/// How many buffers are declared. No script that has a spelling declares more than 32 bits hold.
+/// Counts the declared buffers. No script that has a spelling declares more than 32 bits hold.
 fn declared(script: &Script) -> u32
     ensures { result ≤ length script.now.buffers }
 {
@@ -108,7 +108,7 @@ fn compare_buffers(replay: &Replay, alloc: Global) -> Result<(), Stop>
     Ok(())
 }
 
-/// The frame that the plain device has at a page of TT.
+/// Returns the frame that the plain device has at page `page` of TT.
 fn frame_at(state: &State, page: u32) -> Option<u32> {
     match StorePage::named(&state.core, PagePlace::Aper(page)) {
         StorePage::Frame(frame) => Some(frame),
@@ -116,7 +116,7 @@ fn frame_at(state: &State, page: u32) -> Option<u32> {
     }
 }
 
-/// The frame that each page of TT stands for.
+/// Compares the frame that each page of TT stands for.
 fn compare_aperture(replay: &Replay) -> Result<(), Stop> {
     let aperture = replay.rooms.aperture();
     for page in 0..replay.rooms.script().sizes.tt {
@@ -130,7 +130,7 @@ fn compare_aperture(replay: &Replay) -> Result<(), Stop> {
     Ok(())
 }
 
-/// The buffer after another in its list, if it is on one.
+/// Returns the buffer after `b` in its list, if it is on one.
 fn listed_behind(rooms: &Rooms, b: BufId) -> Option<BufId> {
     if rooms.lru().is_listed(b) {
         rooms.lru().next(b)
@@ -139,7 +139,7 @@ fn listed_behind(rooms: &Rooms, b: BufId) -> Option<BufId> {
     }
 }
 
-/// A list of the parts has these buffers in this order.
+/// Returns whether a list of the parts has these buffers in this order.
 fn is_same_list(rooms: &Rooms, first: Option<BufId>, wanted: &[BufId]) -> bool {
     let mut listed = first;
     for b in wanted {
@@ -151,7 +151,7 @@ fn is_same_list(rooms: &Rooms, first: Option<BufId>, wanted: &[BufId]) -> bool {
     listed.is_none()
 }
 
-/// The list of a memory type and priority.
+/// Compares the list of the memory type `mem` and the priority `prio`.
 fn compare_list(replay: &Replay, mem: Mem, prio: u32) -> Result<(), Stop>
     requires { prio < 4 }
 {
@@ -164,7 +164,7 @@ fn compare_list(replay: &Replay, mem: Mem, prio: u32) -> Result<(), Stop>
     agree_on(same, "another order of list", number as u64)
 }
 
-/// The twelve lists.
+/// Compares the twelve lists.
 fn compare_lists(replay: &Replay) -> Result<(), Stop> {
     for mem in [Mem::System, Mem::Tt, Mem::Vram] {
         for prio in 0..4 {
@@ -174,7 +174,7 @@ fn compare_lists(replay: &Replay) -> Result<(), Stop> {
     Ok(())
 }
 
-/// The first job of a context that isn't finished.
+/// Returns the first job of the context `ctx` that isn't finished.
 fn head_of(state: &State, ctx: u32) -> Option<JobId> {
     for job in state.core.jobs.pending() {
         if job.id.ctx == ctx && !job.finished {
@@ -184,7 +184,7 @@ fn head_of(state: &State, ctx: u32) -> Option<JobId> {
     None
 }
 
-/// The next and the first job of a context.
+/// Compares the next and the first job of the context `ctx`.
 fn compare_jobs_of(replay: &Replay, ctx: u32) -> Result<(), Stop>
     requires { ctx ≤ replay.now.rooms.script.sizes.engines }
 {
@@ -206,7 +206,7 @@ fn compare_jobs(replay: &Replay) -> Result<(), Stop> {
     Ok(())
 }
 
-/// The last ticket and ghost, and the first ghost.
+/// Compares the last ticket and ghost, and the first ghost.
 fn compare_numbers(replay: &Replay) -> Result<(), Stop> {
     let state = replay.plain.state();
     let rooms = &replay.rooms;
@@ -221,7 +221,7 @@ fn compare_numbers(replay: &Replay) -> Result<(), Stop> {
     agree(same, "other ghosts")
 }
 
-/// How many entries there are, and whether all is over.
+/// Compares how many entries there are, and whether all is over.
 fn compare_entries(replay: &Replay) -> Result<(), Stop> {
     let plain = &replay.plain;
     let rooms = &replay.rooms;
@@ -230,7 +230,7 @@ fn compare_entries(replay: &Replay) -> Result<(), Stop> {
     agree(same, "another number of entries on the parts")
 }
 
-/// How many commands each thread has answered.
+/// Compares how many commands each thread has answered.
 fn compare_answered(replay: &Replay) -> Result<(), Stop> {
     let kept = replay.rooms.parts().courses.items();
     for (i, course) in replay.plain.state().courses.items().iter().enumerate() {
@@ -243,7 +243,7 @@ fn compare_answered(replay: &Replay) -> Result<(), Stop> {
     Ok(())
 }
 
-/// The lowest free frame and slot.
+/// Compares the lowest free frame and slot.
 fn compare_free(replay: &Replay, alloc: Global) -> Result<(), Stop> {
     let script = replay.plain.script();
     let core = &replay.plain.state().core;
@@ -256,7 +256,7 @@ fn compare_free(replay: &Replay, alloc: Global) -> Result<(), Stop> {
     agree(replay.rooms.free_slot() == slot, "another lowest free slot")
 }
 
-/// Pages, frames and slots that are held or free.
+/// Compares the counts of pages, frames and slots that are held or free.
 fn compare_accounts(replay: &Replay, alloc: Global) -> Result<(), Stop> {
     let script = replay.plain.script();
     let wanted = accounts_of(alloc, script, replay.plain.state())?;

@@ -20,7 +20,7 @@ pub struct Replay {
     pub rooms: Rooms,
 }
 
-/// The entry that an actor makes next on a plain device, or what it needs first.
+/// Returns the entry that `who` makes next on a plain device, or what it needs first.
 fn next_entry(alloc: Global, plain: &Device, who: Actor) -> Result<Result<Entry, Need>, NoMemory>
     ensures { IfOk result (λ step. step ≡ entry_of plain.now who) }
 {
@@ -38,7 +38,7 @@ fn next_entry(alloc: Global, plain: &Device, who: Actor) -> Result<Result<Entry,
     }
 }
 
-/// The actor whose turn it is on the plain device, which is asked once more where memory was short.
+/// Returns the actor whose turn it is on the plain device, which is asked once more where memory was lacking.
 fn next_actor(plain: &Device) -> Result<Option<Actor>, NoMemory> {
     match plain.next_actor() {
         Ok(found) => Ok(found),
@@ -47,7 +47,7 @@ fn next_actor(plain: &Device) -> Result<Option<Actor>, NoMemory> {
 }
 
 impl Replay {
-    /// A device and parts that haven't begun, of one script that was read twice.
+    /// Makes a device and parts that haven't begun, of one script that was read twice.
     fn begin(alloc: Global, script: Script, again: Script) -> Result<Replay, NoMemory>
         requires same { script ≡ again }
         requires fits { IsTrue (is_script script) }
@@ -63,7 +63,7 @@ impl Replay {
         })
     }
 
-    /// A device and parts that run the script of a text and haven't begun; none, where that is no script.
+    /// Makes a device and parts that run the script of a text and haven't begun, or returns `None` where that is no script.
     ///
     /// # Errors
     ///
@@ -78,7 +78,7 @@ impl Replay {
         }
     }
 
-    /// Gives the parts the entry that an actor makes next on the device, if it has one.
+    /// Gives the parts the entry that `who` makes next on the device, if it has one.
     fn give(&mut self, who: Actor) -> Result<(), NoMemory>
         requires { AreInStep self.old.plain self.old.rooms }
         ensures plain { self.new.plain ≡ self.old.plain }
@@ -94,7 +94,7 @@ impl Replay {
         }
     }
 
-    /// Gives them the entry, once more where memory was short.
+    /// Gives the parts the entry that `who` makes next, once more where memory was lacking.
     fn follow(&mut self, who: Actor) -> Result<(), NoMemory>
         requires { AreInStep self.old.plain self.old.rooms }
         ensures plain { self.new.plain ≡ self.old.plain }
@@ -106,7 +106,7 @@ impl Replay {
         }
     }
 
-    /// A turn of an actor, which the parts take too. Where memory was short the device is asked once more.
+    /// Takes a turn of `who`, which the parts take too. Where memory was lacking the device is asked once more.
     ///
     /// # Errors
     ///
@@ -122,7 +122,7 @@ impl Replay {
         }
     }
 
-    /// A turn in the simulator's order, which the parts follow: the actor that has an entry, if some actor has one.
+    /// Takes a turn in the simulator's order, which the parts follow. Returns the actor that has an entry, if some actor has one.
     ///
     /// # Errors
     ///

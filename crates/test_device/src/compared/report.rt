@@ -7,7 +7,7 @@ use std::alloc::Global;
 use text_line::Line;
 use ttm_base::NoMemory;
 
-/// Room for a report, in bytes.
+/// The room for a report, in bytes.
 const ROOM: usize = 1 << 22;
 
 /// Writes the entries, results and accounts of a device.
@@ -22,7 +22,7 @@ fn write_all_parts(
     write_outcome(line, script, journal, accounts, sink)
 }
 
-/// The report of a device: two legal journals of a script have two reports.
+/// Writes the report of a device: two legal journals of a script have two reports.
 ///
 /// # Errors
 ///
@@ -41,7 +41,7 @@ pub fn report_of(
     }
 }
 
-/// The first line in which two texts differ, from 1.
+/// Returns the number of the first line in which two texts differ, from 1.
 pub fn line_that_differs(one: &[u8], other: &[u8]) -> Option<u64> {
     let mut line = 1u64;
     for (here, plain) in one.iter().zip(other.iter()) {

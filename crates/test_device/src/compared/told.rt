@@ -68,7 +68,7 @@ fn print_places(rt: &impl Print, device: &Device) -> io::Result<()> {
     println!(rt; "")
 }
 
-/// Tells whether the last entry answers a command.
+/// Returns whether the last entry answers a command.
 fn has_answered(device: &Device) -> bool {
     match device.journal().last() {
         Some(entry) => matches!(&entry.kind, Kind::Result { .. } | Kind::Refused { .. }),

@@ -9,7 +9,7 @@ use ttm_base::{Actor, JobId, Logged, Need, NoMemory, Stepper, Turn};
 pub struct Counter {
     limit: u64,
     journal: Vec<u64>,
-    /// How many rounds of a sum a step takes, and what it came to.
+    /// The number of rounds of a sum that a step takes, and what it came to.
     rounds: u32,
     sum: u64,
     ghost small: { limit < 2 ^ 32 },
@@ -22,7 +22,7 @@ impl Counter {
         Counter::slow(alloc, limit, 0)
     }
 
-    /// One whose steps take a while, so that those who wait for a turn meanwhile do sleep.
+    /// Makes a value whose steps take a while, so that workers that wait for a turn meanwhile do sleep.
     pub fn slow(alloc: Global, limit: u32, rounds: u32) -> Counter
         ensures { (result.limit ≡ limit) × (result.journal.items ≡ []) }
     {
@@ -34,7 +34,7 @@ impl Counter {
         }
     }
 
-    /// Takes a while.
+    /// Spends a while on the rounds of a sum.
     fn linger(&mut self)
         ensures { (self.new.limit ≡ self.old.limit) × (self.new.journal.items ≡ self.old.journal.items) }
     {

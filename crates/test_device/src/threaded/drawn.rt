@@ -8,10 +8,10 @@ use std::sync::Wait;
 use std::thread::Threads;
 use test_cases::{Case, Hold, no_memory};
 
-/// How many bytes a read or a write moves at most.
+/// The number of bytes that a read or a write moves at most.
 const CHUNK: usize = 4096;
 
-/// The results of the commands in a report.
+/// Returns the results of the commands in a report.
 fn results_of(report: &str) -> &str {
     let Some((_, after)) = report.split_once("\nresults\n") else {
         return "";

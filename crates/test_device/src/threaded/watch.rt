@@ -10,14 +10,14 @@ use std::sync::atomic::{AtomicBool, AtomicU64};
 use test_cases::{Case, Hold};
 use worker_pool::Gate;
 
-/// How often a worker looks for a flag at most.
+/// The number of times that a worker looks for a flag at most.
 const MOST_LOOKS: u64 = 1_000_000_000;
 
 /// A flag that one worker raises and others wait for.
 #[derive(Drop)]
 struct Flag {
     is_up: AtomicBool,
-    /// Some worker looked as often as it may.
+    /// Whether some worker looked as often as it may.
     is_missed: AtomicBool,
 }
 
@@ -42,7 +42,7 @@ impl Flag {
         self.is_missed.store(true, SeqCst);
     }
 
-    /// Tells whether the flag was raised and no worker waited in vain.
+    /// Returns whether the flag was raised and no worker waited in vain.
     fn is_met(&self) -> bool {
         self.is_up.load(SeqCst) && !self.is_missed.load(SeqCst)
     }
@@ -60,7 +60,7 @@ pub struct Watch {
 }
 
 impl Watch {
-    /// A gate that holds workers so.
+    /// Makes a gate that holds workers as `hold` says.
     pub fn new(hold: Hold) -> Watch {
         Watch {
             hold,
@@ -72,13 +72,13 @@ impl Watch {
         }
     }
 
-    /// Raises one flag, and waits for the other.
+    /// Raises the flag `own`, and waits for `other`.
     fn meet(&self, own: &Flag, other: &Flag) {
         own.raise();
         other.wait();
     }
 
-    /// Holds a worker before this turn.
+    /// Holds `worker` before its turn `turn`, if the gate holds it there.
     fn hold(&self, worker: u32, turn: u64) {
         match (self.hold, worker, turn) {
             (Hold::UntilTheyMeet, 1, 1) | (Hold::InBatchOfFirst, 1, 2) => self.meet(
@@ -94,7 +94,7 @@ impl Watch {
         }
     }
 
-    /// Tells whether each worker that was held was let go by the one that it waited for.
+    /// Returns whether each worker that was held was let go by the one that it waited for.
     pub fn has_held(&self) -> bool {
         match self.hold {
             Hold::Nobody => true,
@@ -104,7 +104,7 @@ impl Watch {
         }
     }
 
-    /// Tells whether there were as many turns and something was written, and no turn after that.
+    /// Returns whether there were `least` turns or more and something was written, and no turn after that.
     fn came_last(&self, least: u64) -> bool {
         self.turns.load(SeqCst) >= least
             && self.writes.load(SeqCst) > 0

@@ -16,7 +16,7 @@ use worker_pool::{IdleGate, work, work_all};
 /// A thread that submits jobs, one without commands, and the engine that does them.
 const ACTORS: [Actor; 3] = [Actor::Thread(1), Actor::Thread(2), Actor::Engine(0)];
 
-/// A value that counts so.
+/// Makes a value that counts at this pace.
 fn counter_of(alloc: Global, pace: Pace) -> Counter {
     match pace {
         Pace::Fast => Counter::new(alloc, 10),
@@ -24,7 +24,7 @@ fn counter_of(alloc: Global, pace: Pace) -> Counter {
     }
 }
 
-/// Takes one turn for the actor, after which the word of context 0 is raised to what is done there.
+/// Takes one turn for `who`, after which the word of context 0 is raised to what is done there.
 fn turn_of<R: Wait>(rt: &R, turns: &Turns<Counter>, pass: &mut Pass<Counter>, who: Actor) -> u64
     requires own { (pass.old.table_id ≡ lock_id turns.now) × (0 < context_count turns.now) }
     requires free { IsFree pass.old }

@@ -4,7 +4,7 @@ use crate::wanted::is_number;
 use aperture_table::Aperture;
 use std::process::Abort;
 
-/// The pages are mapped to these frames.
+/// Asserts that the pages are mapped to these frames.
 fn assert_frames(rt: &impl Abort, aper: &Aperture, want: &[Option<u32>; 4])
     requires { length aper.now ≡ 4 }
 {

@@ -5,7 +5,7 @@ use byte_store::ByteStore;
 use std::alloc::Global;
 use std::process::Abort;
 
-/// The store has these bytes from a place on.
+/// Asserts that the store has these bytes from `at` on.
 pub fn assert_bytes(rt: &impl Abort, store: &ByteStore, at: u64, want: &[u8])
     requires page { length want.now ≤ 4096 }
     requires inside { at + length want.now ≤ length store.now }
@@ -46,7 +46,7 @@ fn copies_and_exclusive_or_within(rt: HostRuntime) {
     assert_bytes(rt, &store, 0, &[0xfd, 0, 2, 1, 7, 0, 0]);
 }
 
-/// Forty pages of zeros.
+/// Makes a store of forty pages of zeros.
 fn forty_pages(rt: &impl Abort, alloc: Global) -> ByteStore
     ensures { length result ≡ 4096 * 40 }
 {
@@ -65,7 +65,7 @@ fn byte_far_from_others(rt: HostRuntime) {
     assert_bytes(rt, &store, 4096 * 36 + 4, &[0; 16]);
 }
 
-/// Bytes are copied to pages that nobody has written, and zeros from them.
+/// Bytes are copied to pages that were never written, and zeros from them.
 #[test]
 fn copies_to_and_from_far_pages(rt: HostRuntime) {
     let rt = &rt;
@@ -77,7 +77,7 @@ fn copies_to_and_from_far_pages(rt: HostRuntime) {
     assert_bytes(rt, &store, 4096 * 20 + 4, &[0, 0, 0]);
 }
 
-/// A byte of a page that nobody has written is a zero in an exclusive or.
+/// A byte of a page that was never written is a zero in an exclusive or.
 #[test]
 fn exclusive_or_of_far_pages(rt: HostRuntime) {
     let mut store = forty_pages(&rt, rt.alloc());

@@ -11,7 +11,7 @@ const A: BufId = BufId(0);
 
 const B: BufId = BufId(1);
 
-/// Page by page, buffer 0 is named by pages of VRAM, and each other one by frames.
+/// Names of pages by their numbers: buffer 0 is named by pages of VRAM, and each other one by frames.
 struct InOrder;
 
 impl PageNames for InOrder {
@@ -26,28 +26,28 @@ impl PageNames for InOrder {
     }
 }
 
-/// The operation is cut into these packets in a vector.
+/// Asserts that the operation is cut into these packets in a vector.
 fn is_cut_in_a_vector(rt: &impl Abort, alloc: Global, op: Op, want: &[Packet]) {
     let mut packets = Vec::new(alloc);
     cut(&mut packets, &InOrder, &[op]).expect(rt, "packets");
     are_packets(rt, packets.as_slice(), want);
 }
 
-/// The operation is cut into these packets in a list.
+/// Asserts that the operation is cut into these packets in a list.
 fn is_cut_in_a_list(rt: &impl Abort, alloc: Global, op: Op, want: &[Packet]) {
     let mut packets = ItemList::new(alloc);
     cut(&mut packets, &InOrder, &[op]).expect(rt, "packets");
     are_packets(rt, packets.items(), want);
 }
 
-/// The operation is cut into these packets, and as many are foretold.
+/// Asserts that the operation is cut into these packets, and that as many are foretold.
 fn is_cut_into(rt: &impl Abort, alloc: Global, op: Op, want: &[Packet]) {
     is_cut_in_a_vector(rt, alloc, op, want);
     is_cut_in_a_list(rt, alloc, op, want);
     ensure(rt, packet_count(&op) as usize == want.len());
 }
 
-/// From the frames of B to the pages of A in VRAM.
+/// A copy from the frames of B to the pages of A in VRAM.
 const COPY: Op = Op::Copy {
     dst: A,
     doff: 100,
@@ -56,7 +56,7 @@ const COPY: Op = Op::Copy {
     len: 5000,
 };
 
-/// It is cut at both borders: each piece ends where the source or the destination comes to another page.
+/// The packets of `COPY`. It is cut at both borders: each piece ends where the source or the destination comes to another page.
 const COPIES: &[Packet] = &[
     Packet::Copy {
         to: PagePlace::Vram(0),
@@ -88,7 +88,7 @@ const COPIES: &[Packet] = &[
     },
 ];
 
-/// A whole page, which is one packet.
+/// An exclusive or of a whole page, which is one packet.
 const XOR: Op = Op::Xor {
     dst: B,
     doff: 4096,
@@ -105,7 +105,7 @@ const XORS: &[Packet] = &[Packet::Xor {
     len: 4096,
 }];
 
-/// It ends in the next page.
+/// A fill that ends in the next page.
 const FILL: Op = Op::Fill {
     dst: B,
     off: 4094,
@@ -128,7 +128,7 @@ const FILLS: &[Packet] = &[
     },
 ];
 
-/// It has no bytes, and so no packets.
+/// A probe of no bytes, which has no packets.
 const PROBE: Op = Op::Probe {
     src: A,
     off: 4095,

@@ -7,7 +7,7 @@ use std::alloc::Global;
 use std::process::Abort;
 use ttm_base::{BufId, Op, Packet, PagePlace};
 
-/// The pages of a buffer, in frames.
+/// Returns the row of the pages of buffer `b`.
 fn row(rt: &impl Abort, alloc: Global, b: BufId, pages: &[PagePlace]) -> PlaceRow {
     PlaceRow {
         b,
@@ -15,7 +15,7 @@ fn row(rt: &impl Abort, alloc: Global, b: BufId, pages: &[PagePlace]) -> PlaceRo
     }
 }
 
-/// Operations on buffers that stand in these frames are cut into these packets.
+/// Asserts that operations on buffers that stand in these frames are cut into these packets.
 fn assert_cut(
     rt: &impl Abort,
     alloc: Global,
@@ -31,7 +31,7 @@ fn assert_cut(
     are_packets(rt, packets.as_slice(), want);
 }
 
-/// Bytes of frames from a place on.
+/// Asserts that the frames have these bytes from `at` on.
 fn assert_frames(rt: &impl Abort, stores: &Stores, at: u64, want: &[u8])
     requires page { length want.now ≤ 4096 }
     requires inside { at + length want.now ≤ length stores.now.frames }
@@ -39,12 +39,12 @@ fn assert_frames(rt: &impl Abort, stores: &Stores, at: u64, want: &[u8])
     are_bytes(rt, stores.frames.part(at, want.len() as u64), want);
 }
 
-/// What was shown.
+/// Asserts that these bytes were shown.
 fn assert_shown(rt: &impl Abort, out: &ProbeBytes, want: &[u8]) {
     are_bytes(rt, out.bytes(), want);
 }
 
-/// A page of VRAM, eight frames, and an aperture of four pages.
+/// Makes stores of a page of VRAM, eight frames, and an aperture of four pages.
 fn eight_frames(rt: &impl Abort, alloc: Global) -> Stores
     ensures vram { length result.vram ≡ 4096 }
     ensures frames { length result.frames ≡ 4096 * 8 }
@@ -126,7 +126,7 @@ const PROBE: Packet = Packet::Probe {
     len: 4,
 };
 
-/// What the packets leave and show.
+/// The packets of a job of three operations leave and show the bytes that are wanted.
 #[test]
 fn job_of_three_ops(rt: HostRuntime) {
     let rt = &rt;

@@ -19,7 +19,7 @@ fn push(rt: &impl Abort, rings: &mut Rings, job: JobId, waits: FenceSet, packets
     rings.push(job, waits, packets).expect(rt, "a place");
 }
 
-/// Whether it is a packet on the first 200 bytes of frame 0.
+/// Returns whether it is a packet on the first 200 bytes of frame 0.
 fn is_near(packet: &Packet, stores: &Stores) -> bool
     requires { length stores.now.frames ≡ 4096 }
     ensures { IsTrue result → CanRun stores.now packet.now }
@@ -40,7 +40,7 @@ fn is_near(packet: &Packet, stores: &Stores) -> bool
     }
 }
 
-/// Runs the head's next packet, and gives its number; or drops the head where none is left.
+/// Runs the head's next packet, and returns its number; or drops the head where none is left.
 fn step(rings: &mut Rings, stores: &mut Stores, out: &mut ProbeBytes) -> Option<u32>
     requires { length stores.old.frames ≡ 4096 }
     ensures { length stores.new.frames ≡ 4096 }
@@ -92,7 +92,7 @@ fn push_free(rt: &impl Abort, alloc: Global, rings: &mut Rings, job: JobId, pack
     push(rt, rings, job, waits, packets);
 }
 
-/// The head before each step, the number of the packet that is run, if one is, and how many bytes were shown last.
+/// The head before each step, the number of the packet that is run, if one is, and the number of bytes that were shown last.
 const STEPS: &[(JobId, Option<u32>, usize)] = &[
     (ONE, Some(0), 0),
     (ONE, Some(1), 2),
@@ -128,7 +128,7 @@ fn jobs_and_packets_in_order(rt: HostRuntime) {
     drop(stores);
 }
 
-/// The set has a reader of the first job.
+/// Makes a set that has a reader of the first job.
 fn with_reader(rt: &impl Abort, alloc: Global) -> FenceSet {
     let mut waits = FenceSet::new(alloc, 1).expect(rt, "a context");
     if 0 < waits.contexts() {
@@ -137,7 +137,7 @@ fn with_reader(rt: &impl Abort, alloc: Global) -> FenceSet {
     waits
 }
 
-/// The head has run no packet, and waits for the first job.
+/// Asserts that the head has run no packet and waits for the first job.
 fn assert_waits(rt: &impl Abort, rings: &Rings, line: &Timeline) {
     ensure(rt, line.contexts() == rings.contexts());
     ensure(rt, 0 < rings.contexts());

@@ -4,14 +4,14 @@ use crate::wanted::{are_bytes, is_number};
 use std::process::Abort;
 use swap_store::SwapStore;
 
-/// A page of one byte goes to the slot, which is the lowest free one.
+/// Puts a page of bytes `byte` into the store. Asserts that it goes to `slot`, the lowest free one.
 fn puts(rt: &impl Abort, store: &mut SwapStore, byte: u8, slot: u32)
     ensures { store.new.held ≡ slice_set store.old.held slot true }
 {
     is_number(rt, store.put(&[byte; 4096]), Some(slot));
 }
 
-/// A page of one byte comes back from the slot.
+/// Takes a page out of `slot`. Asserts that its bytes are `byte`.
 fn takes(rt: &impl Abort, store: &mut SwapStore, slot: u32, byte: u8)
     requires { slice_get store.old.held slot ≡ Some true }
     ensures { store.new.held ≡ slice_set store.old.held slot false }
@@ -21,7 +21,7 @@ fn takes(rt: &impl Abort, store: &mut SwapStore, slot: u32, byte: u8)
     are_bytes(rt, &into, &[byte; 4096]);
 }
 
-/// The slot has a page of one byte.
+/// Asserts that `slot` has a page of bytes `byte`.
 fn assert_page(rt: &impl Abort, store: &SwapStore, slot: u32, byte: u8)
     requires { slot < length store.now.held }
 {

@@ -6,7 +6,7 @@ use copy_packet::Stores;
 use std::alloc::Global;
 use std::process::Abort;
 
-/// Stores of `vram` pages of VRAM and `frames` frames, and an aperture of `aper` pages.
+/// Makes stores of `vram` pages of VRAM and `frames` frames, and an aperture of `aper` pages.
 pub fn stores(rt: &impl Abort, alloc: Global, vram: u32, frames: u32, aper: u32) -> Stores
     ensures vram { length result.vram ≡ 4096 * vram }
     ensures frames { length result.frames ≡ 4096 * frames }

@@ -30,7 +30,7 @@ fn swap_in(frames: &mut ByteStore, frame: u32, swap: &mut SwapStore, slot: u32)
     swap.drop_slot(slot);
 }
 
-/// Frame 1 goes to slot 0, which is the only one.
+/// Swaps frame 1 out to slot 0, which is the only one. Asserts that another frame finds none.
 fn goes_out(rt: &impl Abort, swap: &mut SwapStore, frames: &ByteStore)
     requires { 2 * PAGE ≤ length frames.now }
     ensures { swap.new.held ≡ slice_set swap.old.held 0 true }

@@ -4,10 +4,10 @@ use cpu_maps::CpuMaps;
 use std::process::Abort;
 use ttm_base::{BufId, PagePlace};
 
-/// Of each of a buffer's two pages a place, or none.
+/// For each of a buffer's two pages a place, or none.
 type Pages = (Option<PagePlace>, Option<PagePlace>);
 
-/// What happens to mappings.
+/// An event that mappings see.
 #[derive(Clone, Copy)]
 enum Event {
     /// A thread reads or writes those pages of a buffer that have a place here.
@@ -29,12 +29,12 @@ const FIRST_FRAME: Pages = (Some(PagePlace::Frame(0)), None);
 
 const LAST_FRAME: Pages = (None, Some(PagePlace::Frame(1)));
 
-/// The page's entry in a thread's mapping is the one that is wanted.
+/// Asserts that the page's entry in a thread's mapping is the one that is wanted.
 fn assert_entry(rt: &impl Abort, entry: Option<PagePlace>, want: Option<PagePlace>) {
     ensure(rt, entry == want);
 }
 
-/// The entries of a thread's mapping are these.
+/// Asserts that the entries of a thread's mapping are these.
 fn assert_entries(rt: &impl Abort, maps: &CpuMaps, thread: u32, b: BufId, want: &Pages) {
     assert_entry(rt, maps.entry(thread, b, 0), want.0);
     assert_entry(rt, maps.entry(thread, b, 1), want.1);
@@ -49,7 +49,7 @@ const FIRST: Faults = (true, false);
 
 const NEITHER: Faults = (false, false);
 
-/// Reads or writes a page that has a place here, and tells whether it faults.
+/// Reads or writes a page, if it has a place here, and returns whether it faults.
 fn access(maps: &mut CpuMaps, thread: u32, b: BufId, page: u32, place: Option<PagePlace>) -> bool {
     let Some(place) = place else {
         return false;
@@ -59,7 +59,7 @@ fn access(maps: &mut CpuMaps, thread: u32, b: BufId, page: u32, place: Option<Pa
     faults
 }
 
-/// Does what happens, and gives the pages that fault.
+/// Makes `event` happen, and returns which pages fault.
 fn take_event(maps: &mut CpuMaps, event: Event) -> Faults {
     match event {
         Event::Access(thread, b, (first, last)) => {
@@ -85,7 +85,7 @@ const ONE_BUFFER: &[(Event, Faults, Pages)] = &[
     (Event::Access(1, A, FIRST_FRAME), FIRST, FIRST_FRAME),
 ];
 
-/// The event faults on these pages, and leaves these entries.
+/// Asserts that the event faults on these pages and leaves these entries.
 fn assert_faults(rt: &impl Abort, maps: &mut CpuMaps, event: Event, faults: Faults, want: &Pages) {
     ensure(rt, take_event(maps, event) == faults);
     assert_entries(rt, maps, 1, A, want);
@@ -114,7 +114,7 @@ const TWO_BUFFERS: &[(Event, (Pages, Pages, Pages))] = &[
     (Event::BufferLeaves(B), (NONE, NONE, NONE)),
 ];
 
-/// The event leaves these entries.
+/// Asserts that the event leaves these entries.
 fn assert_left(rt: &impl Abort, maps: &mut CpuMaps, event: Event, want: &(Pages, Pages, Pages)) {
     take_event(maps, event);
     assert_entries(rt, maps, 1, A, &want.0);

@@ -27,7 +27,7 @@ pub enum MapLine {
     Unmap(u32, BufId),
 }
 
-/// A buffer of two pages.
+/// Declares a buffer of two pages.
 fn two_pages(alloc: Global) -> Decl {
     Decl {
         name: Name::new(alloc),
@@ -41,7 +41,7 @@ fn two_pages(alloc: Global) -> Decl {
     }
 }
 
-/// The mark of a line.
+/// Returns the mark of `line`.
 fn mark_of(line: MapLine) -> Mark {
     let (thread, kind) = match line {
         MapLine::Map(thread, b) => (thread, MarkKind::Map { b }),
@@ -54,7 +54,7 @@ fn mark_of(line: MapLine) -> Mark {
     }
 }
 
-/// Two buffers of two pages.
+/// Declares two buffers of two pages.
 fn two_buffers(rt: &impl Abort, alloc: Global) -> Decls {
     let mut buffers = Decls::new(alloc);
     buffers.push(two_pages(alloc)).expect(rt, "a buffer");
@@ -62,7 +62,7 @@ fn two_buffers(rt: &impl Abort, alloc: Global) -> Decls {
     buffers
 }
 
-/// The marks of lines.
+/// Returns the marks of `lines`.
 fn marks_of(rt: &impl Abort, alloc: Global, lines: &[MapLine]) -> Marks {
     let mut marks = Marks::new(alloc);
     for line in lines {
@@ -71,7 +71,7 @@ fn marks_of(rt: &impl Abort, alloc: Global, lines: &[MapLine]) -> Marks {
     marks
 }
 
-/// The mappings of a script with two buffers and these lines.
+/// Makes the mappings of a script with two buffers and these lines.
 pub fn maps_of(rt: &impl Abort, alloc: Global, lines: &[MapLine]) -> CpuMaps {
     let script = Script {
         version: 2,
@@ -84,7 +84,7 @@ pub fn maps_of(rt: &impl Abort, alloc: Global, lines: &[MapLine]) -> CpuMaps {
     CpuMaps::new(alloc, &script).expect(rt, "mappings")
 }
 
-/// The mapping is of this thread and buffer, with two pages.
+/// Asserts that the mapping is of this thread and buffer, with two pages.
 fn assert_area(rt: &impl Abort, area: Option<&Area>, want: &(u32, BufId)) {
     match area {
         Some(area) => {
@@ -95,7 +95,7 @@ fn assert_area(rt: &impl Abort, area: Option<&Area>, want: &(u32, BufId)) {
     }
 }
 
-/// The mappings are of these threads and buffers, with two pages each.
+/// Asserts that the mappings are of these threads and buffers, with two pages each.
 fn assert_areas(rt: &impl Abort, maps: &CpuMaps, want: &[(u32, BufId)]) {
     ensure(rt, maps.areas().len() == want.len());
     let mut areas = maps.areas().iter();

@@ -11,7 +11,7 @@ use std::alloc::Global;
 use std::process::Abort;
 use ttm_base::{BufId, Op};
 
-/// The space after requests.
+/// Returns the space after `requests`.
 fn space_of(rt: &impl Abort, alloc: Global, requests: &[Request]) -> Space {
     let mut space = Space::new(alloc);
     for asked in requests {
@@ -20,7 +20,7 @@ fn space_of(rt: &impl Abort, alloc: Global, requests: &[Request]) -> Space {
     space
 }
 
-/// The operations with addresses are these by name: none where a page isn't mapped.
+/// Asserts that the operations with addresses are these by name: none where a page isn't mapped.
 fn assert_job(rt: &impl Abort, alloc: Global, space: &Space, ops: &[VOp], want: &[Op])
     requires { list_all is_inside ops.now ≡ true }
 {
@@ -33,7 +33,7 @@ fn assert_job(rt: &impl Abort, alloc: Global, space: &Space, ops: &[VOp], want: 
     }
 }
 
-/// The part is this one.
+/// Asserts that the part is this one.
 fn is_piece(rt: &impl Abort, piece: Option<&Piece>, want: &(BufId, u32, u32)) {
     match piece {
         Some(piece) => ensure(rt, (piece.b, piece.off, piece.len) == *want),
@@ -41,7 +41,7 @@ fn is_piece(rt: &impl Abort, piece: Option<&Piece>, want: &(BufId, u32, u32)) {
     }
 }
 
-/// The parts are these.
+/// Asserts that the parts are these.
 fn are_pieces(rt: &impl Abort, pieces: &[Piece], want: &[(BufId, u32, u32)]) {
     ensure(rt, pieces.len() == want.len());
     let mut pieces = pieces.iter();
@@ -50,7 +50,7 @@ fn are_pieces(rt: &impl Abort, pieces: &[Piece], want: &[(BufId, u32, u32)]) {
     }
 }
 
-/// The range has these parts: none where a page isn't mapped.
+/// Asserts that the range has these parts: none where a page isn't mapped.
 fn assert_pieces(
     rt: &impl Abort,
     alloc: Global,
@@ -116,7 +116,7 @@ fn operations_are_cut_at_a_border(rt: HostRuntime) {
     assert_job(&rt, alloc, &space, &OVER_A_BORDER, &ON_BOTH_SIDES);
 }
 
-/// With a hole at page 18.
+/// The requests of a space with a hole at page 18.
 const HOLED: [Request; 3] = [Map(16, 4, A, 0), Map(17, 2, B, 0), Unmap(18, 1)];
 
 const IN_THE_HOLE: [VOp; 1] = [VOp::Fill {
@@ -125,7 +125,7 @@ const IN_THE_HOLE: [VOp; 1] = [VOp::Fill {
     byte: 0,
 }];
 
-/// The second comes into the hole with its last byte.
+/// Operations of which the second comes into the hole with its last byte.
 const INTO_THE_HOLE: [VOp; 2] = [
     VOp::Fill {
         addr: 69630,
@@ -172,7 +172,7 @@ const COPIES: [VOp; 2] = [
     },
 ];
 
-/// Each part ends where one of the two ranges comes to another mapping.
+/// The copies by name. Each part ends where one of the two ranges comes to another mapping.
 const COPIES_BY_NAME: [Op; 6] = [
     Op::Copy {
         dst: A,

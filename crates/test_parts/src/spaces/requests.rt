@@ -16,7 +16,7 @@ pub const B: BufId = BufId(1);
 
 pub const C: BufId = BufId(2);
 
-/// First page of the space, how many pages, and what they are mapped to: a buffer from a page on.
+/// The first page of the space, the number of pages, and what they are mapped to: a buffer from a page on.
 #[derive(Clone, Copy)]
 pub enum Request {
     Map(u32, u32, BufId, u32),
@@ -31,7 +31,7 @@ enum Told {
     Made(u32, u32, BufId, u32),
 }
 
-/// The pages are a request's: some, no more than a buffer has, in the space.
+/// Asserts that the pages are a request's: at least one, no more than a buffer has, in the space.
 fn assert_inside(rt: &impl Abort, va: u32, n: u32)
     ensures some { 1 ≤ n }
     ensures most { n ≤ 4096 }
@@ -42,7 +42,7 @@ fn assert_inside(rt: &impl Abort, va: u32, n: u32)
     ensure(rt, va <= SPACE_PAGES - n);
 }
 
-/// Does a request, and gives its steps.
+/// Answers a request, and returns its steps.
 pub fn answer(rt: &impl Abort, alloc: Global, space: &mut Space, request: Request) -> VSteps {
     let mut steps = VSteps::new(alloc);
     match request {
@@ -59,12 +59,12 @@ pub fn answer(rt: &impl Abort, alloc: Global, space: &mut Space, request: Reques
     steps
 }
 
-/// The span has these ends.
+/// Returns whether the span has these ends.
 fn has_ends(span: Span, start: u32, end: u32) -> bool {
     span.start == start && span.end == end
 }
 
-/// What is kept is this.
+/// Returns whether what is kept is this.
 fn is_kept(part: Option<Span>, want: Option<(u32, u32)>) -> bool {
     match (part, want) {
         (Some(span), Some((start, end))) => has_ends(span, start, end),
@@ -73,7 +73,7 @@ fn is_kept(part: Option<Span>, want: Option<(u32, u32)>) -> bool {
     }
 }
 
-/// The step is this one.
+/// Returns whether the step is this one.
 fn is_told(step: VStep, want: Told) -> bool {
     match (step, want) {
         (VStep::Unmap { span }, Gone(start, end)) => has_ends(span, start, end),
@@ -92,7 +92,7 @@ fn is_told(step: VStep, want: Told) -> bool {
     }
 }
 
-/// The step is the one that is wanted.
+/// Asserts that the step is the one that is wanted.
 fn assert_step(rt: &impl Abort, step: Option<&VStep>, want: &Told) {
     match step {
         Some(step) => ensure(rt, is_told(*step, *want)),
@@ -100,7 +100,7 @@ fn assert_step(rt: &impl Abort, step: Option<&VStep>, want: &Told) {
     }
 }
 
-/// The steps are these.
+/// Asserts that the steps are these.
 fn assert_told(rt: &impl Abort, steps: &[VStep], want: &[Told]) {
     ensure(rt, steps.len() == want.len());
     let mut steps = steps.iter();
@@ -109,13 +109,13 @@ fn assert_told(rt: &impl Abort, steps: &[VStep], want: &[Told]) {
     }
 }
 
-/// The request has these steps.
+/// Asserts that the request has these steps.
 fn assert_answer(rt: &impl Abort, alloc: Global, space: &mut Space, row: &(Request, &[Told])) {
     let steps = answer(rt, alloc, space, row.0);
     assert_told(rt, steps.items(), row.1);
 }
 
-/// The page is mapped to a page of a buffer, or to none.
+/// Asserts that the page is mapped to a page of a buffer, or to none.
 fn assert_page(rt: &impl Abort, space: &Space, row: &(u32, Option<(BufId, u32)>)) {
     ensure(rt, space.at(row.0) == row.1);
 }
@@ -126,7 +126,7 @@ struct Case {
     pages: &'static [(u32, Option<(BufId, u32)>)],
 }
 
-/// The requests have their steps, and the pages stand as is wanted.
+/// Asserts that the requests have their steps and the pages stand as is wanted.
 fn assert_case(rt: &impl Abort, alloc: Global, case: &Case) {
     let mut space = Space::new(alloc);
     for row in case.rows {
@@ -137,7 +137,7 @@ fn assert_case(rt: &impl Abort, alloc: Global, case: &Case) {
     }
 }
 
-/// A remap keeps both ends.
+/// Requests where a remap keeps both ends.
 const BOTH_ENDS: Case = Case {
     rows: &[
         (Map(16, 4, A, 0), &[Made(16, 20, A, 0)]),
@@ -160,7 +160,7 @@ const BOTH_ENDS: Case = Case {
     ],
 };
 
-/// A hole in a mapping. The last but one takes what is left, and the last nothing.
+/// Requests that make a hole in a mapping. The last but one takes what is left, and the last nothing.
 const HOLES: Case = Case {
     rows: &[
         (Map(0, 8, A, 10), &[Made(0, 8, A, 10)]),
@@ -179,7 +179,7 @@ const HOLES: Case = Case {
     pages: &[(0, None), (6, None), (7, None)],
 };
 
-/// A map over several mappings.
+/// Requests that map over several mappings.
 const OVER_SEVERAL: Case = Case {
     rows: &[
         (Map(8, 2, C, 7), &[Made(8, 10, C, 7)]),
@@ -205,7 +205,7 @@ const OVER_SEVERAL: Case = Case {
     ],
 };
 
-/// Mappings side by side stay two, also where the buffer's pages go on.
+/// Requests whose mappings side by side stay two, also where the buffer's pages go on.
 const NEIGHBOURS: Case = Case {
     rows: &[
         (Map(2, 2, A, 2), &[Made(2, 4, A, 2)]),
@@ -223,7 +223,7 @@ const NEIGHBOURS: Case = Case {
     pages: &[(0, Some((A, 0))), (4, None), (5, Some((A, 5)))],
 };
 
-/// The ends of the space.
+/// Requests at the ends of the space.
 const ENDS: Case = Case {
     rows: &[
         (

@@ -10,7 +10,7 @@ use ttm_base::{BufId, FlaggedPlaces, JobId, Loc, Mem, Placement, Span, Spans, St
 enum Change {
     Make,
     Page(u32, Loc),
-    /// Three pages from this one on.
+    /// Three pages from this one on, as a target.
     Target(Mem, u32),
     LeaveTt,
     Bind,
@@ -24,8 +24,8 @@ enum Change {
     Use(u64),
 }
 
-/// What is to be seen of a live buffer: its memory type, its first span there, how many pages have frames, the page to fill next, its pins and its
-/// holder.
+/// What is to be seen of a live buffer: its memory type, its first span there, the number of pages that have frames, the page to fill next,
+/// its pins and its holder.
 #[derive(Clone, Copy)]
 struct Look {
     mem: Mem,
@@ -49,7 +49,7 @@ fn declared(alloc: Global, pages: u32) -> Decl {
     }
 }
 
-/// Three pages from this one on.
+/// Returns a span of three pages from `start` on.
 fn three_from(rt: &impl Abort, alloc: Global, start: u32) -> Spans {
     let span = Span {
         start,
@@ -58,27 +58,27 @@ fn three_from(rt: &impl Abort, alloc: Global, start: u32) -> Spans {
     Spans::from_slice(alloc, &[span]).expect(rt, "a span")
 }
 
-/// A buffer, which is declared.
+/// Returns buffer `b`, which is declared.
 fn lent<'a>(rt: &impl Abort, table: &'a BoTable, b: BufId) -> &'a Bo {
     ensure(rt, (b.0 as usize) < table.len());
     table.get(b)
 }
 
-/// Reserves a buffer, which is declared and which nobody holds.
+/// Reserves buffer `b`, which is declared and which nobody holds.
 fn reserve(rt: &impl Abort, table: &mut BoTable, b: BufId, stamp: Stamp) {
     ensure(rt, (b.0 as usize) < table.len());
     ensure(rt, table.get(b).resv.holder().is_none());
     table.reserve(b, stamp);
 }
 
-/// Pins a buffer, which is declared and can be pinned once more.
+/// Pins buffer `b`, which is declared and can be pinned once more.
 fn pin(rt: &impl Abort, table: &mut BoTable, b: BufId) {
     ensure(rt, (b.0 as usize) < table.len());
     ensure(rt, table.get(b).pins < 255);
     table.pin(b);
 }
 
-/// Lets a job of context 0 use a buffer, which is declared.
+/// Adds the fence of job `num` of context 0 to buffer `b`, which is declared.
 fn add_fence(rt: &impl Abort, table: &mut BoTable, b: BufId, num: u64) {
     ensure(rt, (b.0 as usize) < table.len());
     ensure(rt, 0 < table.get(b).resv.fences().contexts());
@@ -109,7 +109,7 @@ fn take_change(rt: &impl Abort, alloc: Global, table: &mut BoTable, what: Change
     }
 }
 
-/// The buffer lives, is pinned and held as is wanted, and stands where it is to stand.
+/// Asserts that the buffer lives, is pinned and held as is wanted, and stands where it is to stand.
 fn assert_seen(rt: &impl Abort, bo: &Bo, look: &Look) {
     ensure(rt, bo.alive);
     ensure(rt, bo.pins == look.pins);
@@ -349,20 +349,20 @@ const LIFE: &[(Change, Look)] = &[
     ),
 ];
 
-/// Two dead buffers, of two pages and of three.
+/// Makes a table of two dead buffers, of two pages and of three.
 fn two_buffers(rt: &impl Abort, alloc: Global) -> BoTable {
     let decls = [declared(alloc, 2), declared(alloc, 3)];
     BoTable::new(alloc, &decls, 1).expect(rt, "buffers")
 }
 
-/// The buffer is dead, and nobody pins it.
+/// Asserts that buffer `b` is dead and nobody pins it.
 fn assert_dead(rt: &impl Abort, table: &BoTable, b: BufId) {
     let bo = lent(rt, table, b);
     ensure(rt, !bo.alive);
     ensure(rt, bo.pins == 0);
 }
 
-/// After the change the second buffer is seen as is wanted.
+/// Makes the change of `step`, and asserts that the second buffer is then seen as is wanted.
 fn assert_step(rt: &impl Abort, alloc: Global, table: &mut BoTable, step: &(Change, Look)) {
     take_change(rt, alloc, table, step.0);
     assert_seen(rt, lent(rt, table, BufId(1)), &step.1);

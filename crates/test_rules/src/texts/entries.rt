@@ -136,7 +136,7 @@ enum Reading {
     NoEntry,
 }
 
-/// The line is read as told.
+/// Returns whether the line is read as told.
 fn reads(alloc: Global, script: &Script, names: &Names, n: u64, line: &str, want: Reading) -> bool
     requires script { is_script script.now ≡ true }
     requires declared { names.now ≡ names_of script.now.buffers }
@@ -150,7 +150,7 @@ fn reads(alloc: Global, script: &Script, names: &Names, n: u64, line: &str, want
     }
 }
 
-/// Each line of a table is read as told.
+/// Returns whether each line of a table is read as told.
 fn all_read(
     rt: &impl Abort,
     alloc: Global,

@@ -19,7 +19,8 @@ new a
 end
 ";
 
-/// Reports, how many entries are read, the place after them, and the entry from which on there are no more, with the rule that it breaks.
+/// Reports, the number of entries that are read, the position after them, and the entry from which on there are no more, with the rule that
+/// it breaks.
 const REPORTS: &[(&str, usize, usize, Option<(u64, Rule)>)] = &[
     (
         "report 1\njournal 2\n1 t1 new a\n2 t1 result ok\nresults\n",
@@ -72,7 +73,7 @@ const REPORTS: &[(&str, usize, usize, Option<(u64, Rule)>)] = &[
     ("report 1\njournal 0", 0, 0, Some((0, Rule::Head))),
 ];
 
-/// The report is read up to where it is told.
+/// Returns whether the report is read up to where it is told.
 fn reads(
     rt: &impl Abort,
     alloc: Global,

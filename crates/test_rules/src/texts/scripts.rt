@@ -12,7 +12,7 @@ struct Row {
     count: u32,
 }
 
-/// A thread with mappings.
+/// The row of a thread with mappings.
 const MAPPED: Row = Row {
     front: "ttm 2
 vram range 8
@@ -33,7 +33,7 @@ vmap 2 1 b 0
     count: 0,
 };
 
-/// Scripts. By name a job has at most 64 operations, and by all jobs 64 MiB are filled at most.
+/// Rows of scripts. By name a job has at most 64 operations, and by all jobs 64 MiB are filled at most.
 const ROWS: &[Row] = &[
     Row {
         front: "ttm 1
@@ -114,7 +114,7 @@ thread
     },
 ];
 
-/// The script of a row.
+/// Returns the script of a row.
 fn text_of(alloc: Global, row: &Row) -> Result<String, AllocError> {
     let mut more = String::new(alloc);
     for _ in 0..row.count {
@@ -124,7 +124,7 @@ fn text_of(alloc: Global, row: &Row) -> Result<String, AllocError> {
     format!(in alloc; "{front}{line}{more}\nend\n")
 }
 
-/// Tells whether the text is a script, and is spelled as it was written.
+/// Returns whether the text is a script and is spelled as it was written.
 fn is_spelled(alloc: Global, text: &[u8]) -> bool {
     match read_script(alloc, text) {
         Ok(script) => match write_script(alloc, &script) {

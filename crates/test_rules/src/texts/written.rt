@@ -86,7 +86,7 @@ const ACCOUNTS: Accounts = Accounts {
     },
 };
 
-/// Tells whether the report of these entries is written so.
+/// Returns whether the report of these entries is written so.
 fn is_written(alloc: Global, script: &Script, journal: &[Entry]) -> bool {
     let mut line = Line::new(alloc);
     let Ok(mut sink) = MemSink::new(alloc, 1000, 1000, Vec::new(alloc)) else {

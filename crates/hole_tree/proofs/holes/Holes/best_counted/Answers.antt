@@ -22,6 +22,7 @@ returns-clause-hole g c =
     let q : Request = record { pages = c.args.pages; align = c.args.align; first = c.args.first; last = c.args.last } in
     mapped c.shortest.result c.map.result (λ x y m. search rules) c.map.ensures.cases
     ∙ c.shortest.ensures.found
+    ∙ ap (λ r. find (fits Low r) c.self.inside.by_length.spans) c.of-request.ensures
     ∙ ap (λ ys. find (fits Low q) ys) c.self.invariant.lengths
     ∙ first_by_length (fits Low q) c.self.inside.by_start.spans c.self.invariant.rising
     ∙ sym (chosen_best q c.self.inside.by_start.spans)
@@ -34,7 +35,7 @@ returns-clause-cost g c = λ a f e.
     let ends : P c.self.inside.by_length.spans = subst P (sym c.self.invariant.lengths) (ends_sorted c.args.last c.self.inside.by_start.spans (subst P (sym holes) e)) in
     let q : Request = record { pages = c.args.pages; align = c.args.align; first = c.args.first; last = c.args.last } in
     let wide : IsWide q c.self.inside.by_length.spans = record { align = a; first = f; last = ends } in
-    let bound : c.shortest.new.steps - c.args.steps.now ≤ c.self.inside.by_length.height = let k = c.shortest.ensures.cost wide in omega (arith, k) in
+    let bound : c.shortest.new.steps - c.args.steps.now ≤ c.self.inside.by_length.height = let k = c.shortest.ensures.cost (subst (λ r. IsWide r c.self.inside.by_length.spans) (sym c.of-request.ensures) wide) in omega (arith, k) in
     let count : length c.self.inside.by_length.spans ≡ length c.args.self.now.holes =
     ap (λ ys. length ys) c.self.invariant.lengths ∙ length-sorted c.self.inside.by_start.spans ∙ ap (λ ys. length ys) holes in
     rw (← count) (steps_square c.self.inside.by_length (c.shortest.new.steps - c.args.steps.now) c.balanced.ensures bound)

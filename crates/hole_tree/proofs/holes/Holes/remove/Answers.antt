@@ -9,30 +9,30 @@ use Rattle.hole_tree.proofs.Rises.{rising_filter}
 use Rattle.hole_tree.proofs.SortedByLength.{find_start, without_start, start_sorted, length_sorted, sorted_without, held_by_length}
 use Rattle.hole_tree.proofs.holes.Holes.remove.Goals as goal
 
-pub take-by_start-requires-clause-sorted : goal.take-by_start-requires-clause-sorted
-take-by_start-requires-clause-sorted c = start_sorted c.self.inside.by_start.spans c.self.invariant.rising
+pub take-requires-clause-sorted : goal.take-requires-clause-sorted
+take-requires-clause-sorted c = start_sorted c.self.inside.by_start.spans c.self.invariant.rising
 
-pub take-taken-requires-clause-sorted : goal.take-taken-requires-clause-sorted
-take-taken-requires-clause-sorted c = subst (IsSorted ByLength) (sym c.self.invariant.lengths) (length_sorted c.self.inside.by_start.spans c.self.invariant.rising)
+pub take-by_length-requires-clause-sorted : goal.take-by_length-requires-clause-sorted
+take-by_length-requires-clause-sorted c = subst (IsSorted ByLength) (sym c.self.invariant.lengths) (length_sorted c.self.inside.by_start.spans c.self.invariant.rising)
 
-pub take-taken-requires-clause-held : goal.take-taken-requires-clause-held
-take-taken-requires-clause-held c =
+pub take-by_length-requires-clause-held : goal.take-by_length-requires-clause-held
+take-by_length-requires-clause-held c =
     let ys = c.self.inside.by_start.spans in
     let x = c.deref.result.now.hole in
-    let found : find (starts_at c.args.start) ys ≡ Some x = sym (find_start c.args.start ys) ∙ ap (λ b. find (ties ByStart b) ys) (sym c.of-begins.ensures) ∙ c.take-by_start.ensures.found ∙ ap (λ n. Some n.hole) (sym c.deref.ensures) in
+    let found : find (starts_at c.args.start) ys ≡ Some x = sym (find_start c.args.start ys) ∙ ap (λ b. find (ties ByStart b) ys) (sym c.of-begins.ensures) ∙ c.take.ensures.found ∙ ap (λ n. Some n.hole) (sym c.deref.ensures) in
     let held : IsSome (find (ties ByLength x) (sorted_by_length ys)) = held_by_length c.args.start ys x c.self.invariant.rising found in
     subst (λ zs. IsSome (find (ties ByLength x) zs)) (sym c.self.invariant.lengths) held
 
 pub overflow_sub-self : goal.overflow_sub-self
 overflow_sub-self c =
     let ys = c.self.inside.by_start.spans in
-    let found : find (starts_at c.args.start) ys ≡ Some c.deref.result.now.hole = sym (find_start c.args.start ys) ∙ ap (λ b. find (ties ByStart b) ys) (sym c.of-begins.ensures) ∙ c.take-by_start.ensures.found ∙ ap (λ n. Some n.hole) (sym c.deref.ensures) in
+    let found : find (starts_at c.args.start) ys ≡ Some c.deref.result.now.hole = sym (find_start c.args.start ys) ∙ ap (λ b. find (ties ByStart b) ys) (sym c.of-begins.ensures) ∙ c.take.ensures.found ∙ ap (λ n. Some n.hole) (sym c.deref.ensures) in
     omega (arith, c.self.invariant.count, length-without c.args.start ys c.deref.result.now.hole c.self.invariant.rising found)
 
 pub keep-requires : goal.keep-requires
 keep-requires c =
     let ys = c.self.inside.by_start.spans in
-    let found : find (starts_at c.args.start) ys ≡ Some c.deref.result.now.hole = sym (find_start c.args.start ys) ∙ ap (λ b. find (ties ByStart b) ys) (sym c.of-begins.ensures) ∙ c.take-by_start.ensures.found ∙ ap (λ n. Some n.hole) (sym c.deref.ensures) in
+    let found : find (starts_at c.args.start) ys ≡ Some c.deref.result.now.hole = sym (find_start c.args.start ys) ∙ ap (λ b. find (ties ByStart b) ys) (sym c.of-begins.ensures) ∙ c.take.ensures.found ∙ ap (λ n. Some n.hole) (sym c.deref.ensures) in
     omega (arith, c.self.invariant.count, c.self.invariant.room, length-without c.args.start ys c.deref.result.now.hole c.self.invariant.rising found)
 
 pub returns-clause-hole : goal.returns-clause-hole
@@ -40,13 +40,13 @@ returns-clause-hole c =
     ap (λ h. find (starts_at c.args.start) h.holes) (sym c.self.view_is)
     ∙ sym (find_start c.args.start c.self.inside.by_start.spans)
     ∙ ap (λ b. find (ties ByStart b) c.self.inside.by_start.spans) (sym c.of-begins.ensures)
-    ∙ c.take-by_start.ensures.found
+    ∙ c.take.ensures.found
     ∙ ap (λ n. Some n.hole) (sym c.deref.ensures)
     ∙ ap (λ h. Some h) (sym c.span.ensures)
 
 pub returns-clause-left : goal.returns-clause-left
 returns-clause-left c =
-    c.take-by_start.ensures.left
+    c.take.ensures.left
     ∙ ap (λ b. untied ByStart b c.self.inside.by_start.spans) c.of-begins.ensures
     ∙ without_start c.args.start c.self.inside.by_start.spans
     ∙ ap (λ h. without c.args.start h.holes) c.self.view_is
@@ -60,11 +60,11 @@ pub invariant_of-self : goal.invariant_of-self
 invariant_of-self c =
     let ys = c.self.inside.by_start.spans in
     let x = c.deref.result.now.hole in
-    let found : find (starts_at c.args.start) ys ≡ Some x = sym (find_start c.args.start ys) ∙ ap (λ b. find (ties ByStart b) ys) (sym c.of-begins.ensures) ∙ c.take-by_start.ensures.found ∙ ap (λ n. Some n.hole) (sym c.deref.ensures) in
-    let left : c.take-by_start.new.self.spans ≡ without c.args.start ys = c.take-by_start.ensures.left ∙ ap (λ b. untied ByStart b ys) c.of-begins.ensures ∙ without_start c.args.start ys in
-    let less : length c.take-by_start.new.self.spans + 1 ≡ length ys = ap (λ zs. length zs + 1) left ∙ length-without c.args.start ys x c.self.invariant.rising found in
-    let lengths : c.take-taken.new.self.spans ≡ sorted_by_length (without c.args.start ys) =
-    c.take-taken.ensures.left
+    let found : find (starts_at c.args.start) ys ≡ Some x = sym (find_start c.args.start ys) ∙ ap (λ b. find (ties ByStart b) ys) (sym c.of-begins.ensures) ∙ c.take.ensures.found ∙ ap (λ n. Some n.hole) (sym c.deref.ensures) in
+    let left : c.take.new.self.spans ≡ without c.args.start ys = c.take.ensures.left ∙ ap (λ b. untied ByStart b ys) c.of-begins.ensures ∙ without_start c.args.start ys in
+    let less : length c.take.new.self.spans + 1 ≡ length ys = ap (λ zs. length zs + 1) left ∙ length-without c.args.start ys x c.self.invariant.rising found in
+    let lengths : c.take-by_length.new.self.spans ≡ sorted_by_length (without c.args.start ys) =
+    c.take-by_length.ensures.left
     ∙ ap (λ zs. untied ByLength x zs) c.self.invariant.lengths
     ∙ sorted_without c.args.start ys x c.self.invariant.rising found in
     record {

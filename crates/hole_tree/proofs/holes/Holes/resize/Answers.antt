@@ -10,11 +10,11 @@ use Rattle.hole_tree.proofs.Rises.{rising_filter, rising_with}
 use Rattle.hole_tree.proofs.SortedByLength.{length_sorted, sorted_with, sorted_without, held_by_length}
 use Rattle.hole_tree.proofs.holes.Holes.resize.Goals as goal
 
-pub take-taken-requires-clause-sorted : goal.take-taken-requires-clause-sorted
-take-taken-requires-clause-sorted c = subst (IsSorted ByLength) (sym c.self.invariant.lengths) (length_sorted c.self.inside.by_start.spans c.self.invariant.rising)
+pub take-requires-clause-sorted : goal.take-requires-clause-sorted
+take-requires-clause-sorted c = subst (IsSorted ByLength) (sym c.self.invariant.lengths) (length_sorted c.self.inside.by_start.spans c.self.invariant.rising)
 
-pub take-taken-requires-clause-held : goal.take-taken-requires-clause-held
-take-taken-requires-clause-held c =
+pub take-requires-clause-held : goal.take-requires-clause-held
+take-requires-clause-held c =
     let ys = c.self.inside.by_start.spans in
     let found : find (starts_at c.args.from.start) ys ≡ Some c.args.from = ap (λ h. find (starts_at c.args.from.start) h.holes) c.self.view_is ∙ c.requires.held in
     let held : IsSome (find (ties ByLength c.args.from) (sorted_by_length ys)) = held_by_length c.args.from.start ys c.args.from c.self.invariant.rising found in
@@ -24,8 +24,8 @@ pub insert-requires-clause-sorted : goal.insert-requires-clause-sorted
 insert-requires-clause-sorted c =
     let ys = c.self.inside.by_start.spans in
     let found : find (starts_at c.args.from.start) ys ≡ Some c.args.from = ap (λ h. find (starts_at c.args.from.start) h.holes) c.self.view_is ∙ c.requires.held in
-    let left : c.take-taken.new.self.spans ≡ sorted_by_length (without c.args.from.start ys) =
-    c.take-taken.ensures.left
+    let left : c.take.new.self.spans ≡ sorted_by_length (without c.args.from.start ys) =
+    c.take.ensures.left
     ∙ ap (λ h. untied ByLength h c.self.inside.by_length.spans) c.of-from.ensures
     ∙ ap (λ zs. untied ByLength c.args.from zs) c.self.invariant.lengths
     ∙ sorted_without c.args.from.start ys c.args.from c.self.invariant.rising found in
@@ -54,14 +54,14 @@ invariant_of-self c =
     ∙ ap (λ h. replaced h.start c.of-to.result ys) c.of-from.ensures
     ∙ ap (λ h. replaced c.args.from.start h ys) c.of-to.ensures
     ∙ resized c.args.from c.args.to ys c.self.invariant.rising found c.requires.starts c.requires.ends apart in
-    let left : c.take-taken.new.self.spans ≡ sorted_by_length rest =
-    c.take-taken.ensures.left
+    let left : c.take.new.self.spans ≡ sorted_by_length rest =
+    c.take.ensures.left
     ∙ ap (λ h. untied ByLength h c.self.inside.by_length.spans) c.of-from.ensures
     ∙ ap (λ zs. untied ByLength c.args.from zs) c.self.invariant.lengths
     ∙ sorted_without c.args.from.start ys c.args.from c.self.invariant.rising found in
     let by_length : c.insert.new.self.spans ≡ sorted_by_length (with_hole c.args.to rest) =
     c.insert.ensures.spans
-    ∙ ap (λ h. placed ByLength h c.take-taken.new.self.spans) c.of-to.ensures
+    ∙ ap (λ h. placed ByLength h c.take.new.self.spans) c.of-to.ensures
     ∙ ap (λ zs. placed ByLength c.args.to zs) left
     ∙ sym (sorted_with c.args.to rest c.requires.whole apart rising) in
     let count : length c.resize.new.self.spans ≡ length ys = ap (λ zs. length zs) holes ∙ length-with c.args.to rest ∙ length-without c.args.from.start ys c.args.from c.self.invariant.rising found in

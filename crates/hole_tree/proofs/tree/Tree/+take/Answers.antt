@@ -55,7 +55,7 @@ returns-then-is_before-clause-left g t c =
     ∙ ap (λ ys. ys ++ d.hole ∷ d.right.spans) c.take-found.ensures.left
     ∙ ap (λ m. untied g.S.Sort.order c.args.sought.now m.left.spans ++ m.hole ∷ m.right.spans) c.deref_mut.ensures.value in
     elim c.if-lower.branch [
-      | then-lower w ↦ rw w.self-inside-is (w.lost_left-lower.ensures.spans ∙ rest ∙ sym goes.left)
+      | then-lower w ↦ rw w.self-inside-is (w.grown_right.ensures.spans ∙ rest ∙ sym goes.left)
       | else-lower w ↦ rw w.self-inside-is (rest ∙ sym goes.left)
     ]
 
@@ -67,7 +67,7 @@ returns-then-is_before-clause-low g t c =
     let first = c.deref_mut.ensures.value in
     let second = c.deref_mut-then-is_before.ensures.value in
     elim c.if-lower.branch [
-      | then-lower w ↦ rw w.self-inside-is (low_sound g.S.Side.keeps _ w.lost_left-lower.ensures.sound)
+      | then-lower w ↦ rw w.self-inside-is (low_sound g.S.Side.keeps _ w.grown_right.ensures.sound)
       | else-lower w ↦
           let same : c.take-found.new.self.height ≡ c.deref_mut.result.now.left.height = grind (arith, common_steps) in
           let height : m.left.height ≡ n.left.height = ap (λ m. m.left.height) second ∙ same ∙ ap (λ m. m.left.height) first in
@@ -120,7 +120,7 @@ returns-then-is_before-2-clause-left g t c =
     ∙ ap (λ ys. d.left.spans ++ d.hole ∷ ys) c.take-found-then-is_before-2.ensures.left
     ∙ ap (λ m. m.left.spans ++ m.hole ∷ untied g.S.Sort.order c.args.sought.now m.right.spans) c.deref_mut-then-is_before-2.ensures.value in
     elim c.if-lower-2.branch [
-      | then-lower-2 w ↦ rw w.self-inside-is (w.lost_right-lower.ensures.spans ∙ rest ∙ sym goes.left)
+      | then-lower-2 w ↦ rw w.self-inside-is (w.grown_left.ensures.spans ∙ rest ∙ sym goes.left)
       | else-lower-2 w ↦ rw w.self-inside-is (rest ∙ sym goes.left)
     ]
 
@@ -132,7 +132,7 @@ returns-then-is_before-2-clause-low g t c =
     let first = c.deref_mut-then-is_before-2.ensures.value in
     let second = c.deref_mut-then-is_before-2-2.ensures.value in
     elim c.if-lower-2.branch [
-      | then-lower-2 w ↦ rw w.self-inside-is (low_sound g.S.Side.keeps _ w.lost_right-lower.ensures.sound)
+      | then-lower-2 w ↦ rw w.self-inside-is (low_sound g.S.Side.keeps _ w.grown_left.ensures.sound)
       | else-lower-2 w ↦
           let same : c.take-found-then-is_before-2.new.self.height ≡ c.deref_mut-then-is_before-2.result.now.right.height = grind (arith, common_steps) in
           let height : m.right.height ≡ n.right.height = ap (λ m. m.right.height) second ∙ same ∙ ap (λ m. m.right.height) first in

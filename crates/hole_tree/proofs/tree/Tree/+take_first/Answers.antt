@@ -14,7 +14,7 @@ returns-then-not-is_empty-clause-low g t c =
     let first = c.deref_mut.ensures.value in
     let second = c.deref_mut-then-not-is_empty.ensures.value in
     elim c.if-lower.branch [
-      | then-lower w ↦ rw w.self-inside-is (low_sound g.S.Side.keeps _ w.lost_left-lower.ensures.sound)
+      | then-lower w ↦ rw w.self-inside-is (low_sound g.S.Side.keeps _ w.grown_right.ensures.sound)
       | else-lower w ↦
           let same : c.take_first-first.new.self.height ≡ c.deref_mut.result.now.left.height = grind (arith, common_steps) in
           let height : m.left.height ≡ n.left.height = ap (λ m. m.left.height) second ∙ same ∙ ap (λ m. m.left.height) first in

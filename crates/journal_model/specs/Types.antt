@@ -1,0 +1,46 @@
+-- The types of buffers, scripts, journals and states, so that each file of definitions has one line for them. Those of lines
+-- and of addresses are named where they are used: what is legal doesn't rest on them. `Jobs`, `JobRuns` and `JobNames`, which types of the
+-- code cite, name theirs themselves.
+pub use Rattle.ttm_base.specs.declared.Actor.{Actor}
+pub use Rattle.ttm_base.specs.declared.BufId.{BufId}
+pub use Rattle.ttm_base.specs.declared.Deny.{Deny}
+pub use Rattle.ttm_base.specs.declared.Fence.{Fence}
+pub use Rattle.ttm_base.specs.declared.FlaggedPlace.{FlaggedPlace}
+pub use Rattle.ttm_base.specs.declared.JobId.{JobId}
+pub use Rattle.ttm_base.specs.declared.Loc.{Loc}
+pub use Rattle.ttm_base.specs.declared.Mem.{Mem}
+pub use Rattle.ttm_base.specs.declared.Need.{Need}
+pub use Rattle.ttm_base.specs.declared.Op.{Op}
+pub use Rattle.ttm_base.specs.declared.Owner.{Owner}
+pub use Rattle.ttm_base.specs.declared.Packet.{Packet}
+pub use Rattle.ttm_base.specs.declared.PagePlace.{PagePlace}
+pub use Rattle.ttm_base.specs.declared.Place.{Place}
+pub use Rattle.ttm_base.specs.declared.Span.{Span}
+pub use Rattle.ttm_base.specs.declared.Stamp.{Stamp}
+pub use Rattle.ttm_base.specs.declared.Usage.{Usage}
+pub use Rattle.journal_model.specs.declared.entry.Cause.{Cause}
+pub use Rattle.journal_model.specs.declared.entry.CauseRow.{CauseRow}
+pub use Rattle.journal_model.specs.declared.entry.DryWhy.{DryWhy}
+pub use Rattle.journal_model.specs.declared.entry.Entry.{Entry}
+pub use Rattle.journal_model.specs.declared.entry.Kind.{Kind}
+pub use Rattle.journal_model.specs.declared.entry.Left.{Left}
+pub use Rattle.journal_model.specs.declared.entry.Shown.{Shown}
+pub use Rattle.journal_model.specs.declared.entry.Why.{Why}
+pub use Rattle.journal_model.specs.declared.script.Command.{Command}
+pub use Rattle.journal_model.specs.declared.script.Decl.{Decl}
+pub use Rattle.journal_model.specs.declared.script.Mark.{Mark}
+pub use Rattle.journal_model.specs.declared.script.MarkKind.{MarkKind}
+pub use Rattle.journal_model.specs.declared.script.Script.{Script}
+pub use Rattle.journal_model.specs.declared.script.Sizes.{Sizes}
+pub use Rattle.journal_model.specs.declared.state.Buffer.{Buffer}
+pub use Rattle.journal_model.specs.declared.state.Core.{Core}
+pub use Rattle.journal_model.specs.declared.state.Course.{Course}
+pub use Rattle.journal_model.specs.declared.state.Ghost.{Ghost}
+pub use Rattle.journal_model.specs.declared.state.Job.{Job}
+pub use Rattle.journal_model.specs.declared.state.Reservation.{Reservation}
+pub use Rattle.journal_model.specs.declared.state.SearchAim.{SearchAim}
+pub use Rattle.journal_model.specs.declared.state.Stage.{Stage}
+pub use Rattle.journal_model.specs.declared.state.State.{State}
+pub use Rattle.journal_model.specs.declared.state.Targets.{Targets}
+pub use Rattle.journal_model.specs.declared.state.Task.{Task}
+pub use Rattle.journal_model.specs.declared.state.Victim.{Victim}
