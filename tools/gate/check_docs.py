@@ -310,7 +310,7 @@ def closure_of(name):
         found.pop(mark)
         found.append(path)
 
-    visit(TOP / "crates" / name if "/" in name else TOP / "crates" / "journal_model" / "specs" / f"{name}.antt")
+    visit(TOP / "crates" / name if "/" in name else next((TOP / "crates" / "journal_model" / "specs").glob(f"**/{name}.antt")))
     return found
 
 
