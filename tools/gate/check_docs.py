@@ -52,6 +52,7 @@ import pathlib
 import re
 import sys
 
+from docs_callers import is_called
 from docs_counts import faults_of_counts
 from docs_english import faults_of_text, words_of_text
 from docs_kernel import faults_of_kernel, ours_of, stored, texts
@@ -392,7 +393,7 @@ def words_told(documents):
 
 
 def faults_of_pages(index):
-    """Each crate has its page, headed by its name and short."""
+    """Each crate has its page, headed by its name and short, with who calls it."""
     for crate in sorted(index.crates):
         page = TOP / "crates" / crate / "README.md"
         if not page.is_file():
@@ -401,6 +402,8 @@ def faults_of_pages(index):
             yield f"crates/{crate}/README.md:1: its heading isn't the crate's name"
         elif (length := len(BLOCK.sub("", page.read_text()).encode())) > PAGE_BYTES:
             yield f"crates/{crate}/README.md:1: it has {length} bytes, more than {PAGE_BYTES}, without blocks that are made"
+        elif is_called(TOP, crate) and "<!-- made: callers -->" not in page.read_text():
+            yield f"crates/{crate}/README.md:1: it has no block callers"
         for page in sorted((TOP / "crates" / crate).glob("*.md")):
             if page.stem != "README" and page.read_text().splitlines()[:1] != [f"# `{page.stem}`"]:
                 yield f"crates/{crate}/{page.name}:1: its heading isn't the part's name"

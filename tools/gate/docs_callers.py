@@ -385,16 +385,18 @@ def listed(names: Iterable[str]) -> str:
 def claims_of(top: pathlib.Path) -> Dict[str, List[str]]:
     """Returns by crate the functions that the tables of docs/CLAIMS.md name, up to what is trusted."""
     calls = calls_of(top)
-    homes = {(f.owner, f.name): f.crate for f in reversed(calls.public)}
-    modules = {(file.module[-1], name): file.crate for file in calls.files if file.module for _, _, name in HEAD.findall(file.text)}
+    functions = sorted(calls.public, key=lambda f: not f.crate.startswith(("plain_", "rules_", "test_")))
+    homes = {(f.owner, f.name): f.crate for f in functions}
+    modules = {(module, name): file.crate for file in calls.files for module in file.module for _, _, name in HEAD.findall(file.text)}
     claims: Dict[str, List[str]] = collections.defaultdict(list)
     text = (top / "docs" / "CLAIMS.md").read_text().split("\n## 5")[0]
     for name in re.findall(rf"`((?:{WORD}::)+{WORD})`", text):
         above, last = name.split("::")[-2:]
-        crate = name.split("::")[0]
-        crate = crate if crate in calls.uses else homes.get((above, last)) or modules.get((above, last)) or ""
-        if name not in claims[crate]:
-            claims[crate].append(name)
+        crate, _, rest = name.partition("::")
+        if crate not in calls.uses:
+            crate, rest = homes.get((above, last)) or modules.get((above, last)) or "", name
+        if rest not in claims[crate]:
+            claims[crate].append(rest)
     return claims
 
 
@@ -426,6 +428,11 @@ def laws_cited(top: pathlib.Path, crate: str) -> List[str]:
                 found |= set(re.findall(r"Rattle\.laws\.(?:specs|proofs)\.(law_\w+)", path.read_text()))
                 found |= set(re.findall(r"Rattle\.(law_\w+)\.", path.read_text()))
     return sorted(found)
+
+
+def is_called(top: pathlib.Path, crate: str) -> bool:
+    """Whether a crate has public functions for programs."""
+    return not crate.startswith(APART) and any(function.crate == crate for function in calls_of(top).public)
 
 
 def callers_of(calls: Calls, function: Function) -> str:

@@ -9,6 +9,7 @@ import unittest
 
 import check_docs
 import docs_english
+from docs_callers import is_called, table_of_calls
 from docs_counts import Count, faults_of_counts, number_of
 from docs_edits import Edit, edits_of, function_at, rows_of_edits
 from docs_english import PHRASES, faults_of_text, words_of_text
@@ -173,6 +174,47 @@ class Made(Tree):
     def test_words(self) -> None:
         text = "Two words `code` [here](a.md) 12\n\n```\ncode\n```\n<!-- made: x -->\nno\n<!-- end -->\n| `crates/a/src/b.rt` | 1 | no |\n"
         self.assertEqual(words_of_text(text), 3)
+
+
+class Callers(Tree):
+    def setUp(self) -> None:
+        super().setUp()
+        self.write("crates.txt", "low:\nmid: low\nover: mid\nlaws: low\ntest_low: low\n")
+        self.write("crates/low/src/lib.rt", "mod list;\npub mod words;\npub use list::List;\n")
+        self.write("crates/low/src/list.rt", "/// Of words.\npub struct List {\n    words: u32,\n}\n\nimpl List {\n    pub fn put(&mut self, n: u32)\n"
+                   "        ensures { self.new ≡ f (self.old) }\n    {}\n\n    pub fn len(&self) -> u32 {\n        1\n    }\n}\n\npub fn hidden() {}\n")
+        self.write("crates/low/src/words.rt", "pub fn told(out: &mut List, n: u32) {}\n\npub fn alone() {}\n\npub fn tried() {}\n")
+        self.write("crates/low/README.md", "# `low`\n\nLists.\n\n<!-- made: callers -->\n<!-- end -->\n")
+        self.write("crates/mid/src/lib.rt", "use low::{List, words::told};\n\npub struct Held {\n    pub list: List,\n}\n\n"
+                   "pub fn go(held: &mut Held) {\n    held.list.put(1); // held.alone()\n    told(&mut held.list, 2);\n}\n")
+        self.write("crates/over/src/lib.rt", "use mid::{Held, go};\n\npub fn top(held: &mut Held, other: &[u32]) {\n    go(held);\n    let list = &held.list;\n"
+                   "    f(list.len() + other.len());\n}\n")
+        self.write("crates/test_low/src/lib.rt", "fn case() {\n    low::words::tried();\n}\n")
+        self.write("docs/CLAIMS.md", "| Words are told. | `words::told` |\n\n## 5. What is trusted\n\n`mid::go`\n")
+
+    def test_a_table_of_callers(self) -> None:
+        page = self.top / "crates/low/README.md"
+        self.assertEqual(len(list(faults_of_blocks(self.top, page))), 1)
+        page.write_text(made_text(self.top, page, lambda name: None))
+        self.assertEqual(list(faults_of_blocks(self.top, page)), [])
+        for row in ("| `List::put` | `self` | `mid` |", "| `List::len` | nothing | `over` |", "| `told` | `out` | `mid` |",
+                    "| `alone` | nothing | no other crate |", "| `tried` | nothing | tests |", "Claimed in [CLAIMS.md](../../docs/CLAIMS.md): `words::told`."):
+            self.assertIn(row + "\n", page.read_text())
+        self.assertNotIn("hidden", page.read_text())
+
+    def test_a_wrong_caller_is_found(self) -> None:
+        page = self.top / "crates/low/README.md"
+        page.write_text(made_text(self.top, page, lambda name: None).replace("| `self` | `mid` |", "| `self` | `over` |"))
+        self.assertEqual([fault for _, fault in faults_of_blocks(self.top, page)],
+                         ["tools/gate/check_docs.py --write has here: | `List::put` | `self` | `mid` |"])
+
+    def test_claims_rest_on_a_crate_by_its_callers(self) -> None:
+        self.write("docs/CLAIMS.md", "| All is told. | `over::top`, `laws::are_kept` |\n")
+        self.assertIn("Claims ([CLAIMS.md](../../docs/CLAIMS.md)) rest on it by way of `over`, `laws`.",
+                      table_of_calls(self.top, self.top / "crates/low/README.md"))
+
+    def test_crates_that_programs_call(self) -> None:
+        self.assertEqual([name for name in ("low", "laws", "test_low") if is_called(self.top, name)], ["low"])
 
 
 class Counts(Tree):
