@@ -457,10 +457,11 @@ def table_of_calls(top: pathlib.Path, document: pathlib.Path) -> List[str]:
     lines += [f"| {names_of_calls(functions)} | {listed(lent) or 'nothing'} | {by} |" for (lent, by), functions in rows.items()]
     claims = claims_of(top)
     ways = ways_to_claims(calls, claims, crate)
+    by_way = f"by way of {listed(ways) if len(ways) < MANY else f'{len(ways)} crates'}."
     if claims.get(crate):
-        lines += ["", f"Claimed in [CLAIMS.md](../../docs/CLAIMS.md): {listed(claims[crate])}."]
+        lines += ["", f"Claimed in [CLAIMS.md](../../docs/CLAIMS.md): {listed(claims[crate])}." + (f" More rests on it {by_way}" if ways else "")]
     elif ways:
-        lines += ["", f"Claims ([CLAIMS.md](../../docs/CLAIMS.md)) rest on it by way of {listed(ways) if len(ways) < MANY else f'{len(ways)} crates'}."]
+        lines += ["", f"Claims ([CLAIMS.md](../../docs/CLAIMS.md)) rest on it {by_way}"]
     laws = laws_cited(top, crate)
     if laws:
         lines += ["", f"Laws that its contracts and proofs use: {listed(laws)}."]

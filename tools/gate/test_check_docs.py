@@ -9,7 +9,7 @@ import unittest
 
 import check_docs
 import docs_english
-from docs_callers import is_called, table_of_calls
+from docs_callers import claims_of, is_called, table_of_calls
 from docs_counts import Count, faults_of_counts, number_of
 from docs_edits import Edit, edits_of, function_at, rows_of_edits
 from docs_english import PHRASES, faults_of_text, words_of_text
@@ -211,6 +211,10 @@ class Callers(Tree):
     def test_claims_rest_on_a_crate_by_its_callers(self) -> None:
         self.write("docs/CLAIMS.md", "| All is told. | `over::top`, `laws::are_kept` |\n")
         self.assertIn("Claims ([CLAIMS.md](../../docs/CLAIMS.md)) rest on it by way of `over`, `laws`.",
+                      table_of_calls(self.top, self.top / "crates/low/README.md"))
+        self.write("docs/CLAIMS.md", "| All is told. | `over::top`, `low::words::told` |\n")
+        claims_of.cache_clear()
+        self.assertIn("Claimed in [CLAIMS.md](../../docs/CLAIMS.md): `words::told`. More rests on it by way of `over`.",
                       table_of_calls(self.top, self.top / "crates/low/README.md"))
 
     def test_crates_that_programs_call(self) -> None:
