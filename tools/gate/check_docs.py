@@ -165,7 +165,7 @@ class Index:
             above, module, name = definition.groups()
             found = [(path, line) for path, line, _ in self.places[name]
                      if path.stem == module and path.suffix == ".antt" and (not above or above in path.parts)]
-            first = [(path, line) for path, line in found if above or path.parts[-3] in ("journal_model", "ttm_base")]
+            first = [(path, line) for path, line in found if above or {"journal_model", "ttm_base"} & {*path.parts} and "specs" in path.parts]
             return (first or found or [None])[0]
         *above, name = text.split("::")
         found = []
@@ -376,7 +376,8 @@ def link(index, document):
     lines = document.read_text().split("\n")
     for at, line in enumerate(lines):
         if line.startswith("| ") and not re.match(r"\| \[?`crates/", line):
-            lines[at] = re.sub(r"(?<!\[)`([^`]+)`(?!\])", lambda found: f"[`{found[1]}`](.#L1)" if index.place_of(found[1]) else found[0], line)
+            lines[at] = re.sub(r"\[`[^`]+`\]\([^)]*\)|`([^`]+)`",
+                               lambda found: f"[`{found[1]}`](.#L1)" if found[1] and index.place_of(found[1]) else found[0], line)
         elif line.startswith("| `crates/"):
             lines[at] = re.sub(r"^\| `([^`]+)`", r"| [`\1`](../\1)", line)
     document.write_text(linked_text(TOP, document, "\n".join(lines), index.place_of))

@@ -265,6 +265,15 @@ class Links(Tree):
             with self.subTest(target):
                 self.assertEqual(check_docs.fault_of_link(document, target) is None, right)
 
+    def test_names_after_a_link_are_linked_too(self) -> None:
+        class Found:
+            @staticmethod
+            def place_of(name):
+                return (self.top / "a.rt", 7) if name in ("a", "b") else None
+
+        document = self.write("docs/D.md", "| [`a`](../a.rt#L7), `b`, `c` |\n")
+        check_docs.link(Found, document)
+        self.assertEqual(document.read_text(), "| [`a`](../a.rt#L7), [`b`](../a.rt#L7), `c` |\n")
 
 
 class Edits(unittest.TestCase):
