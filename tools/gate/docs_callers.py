@@ -190,6 +190,12 @@ class Calls:
         passed = self.passed.get((crate, name))
         return self.home(*passed) if passed else (crate, name)
 
+    def home_of(self, crate: str, steps: List[str]) -> Tuple[str, str]:
+        """Returns the crate and the name that are meant by a path in a crate, whose modules may be another's too."""
+        for step in steps[:-1]:
+            crate = self.passed.get((crate, step), (crate,))[0]
+        return self.home(crate, steps[-1])
+
     def read_names(self) -> None:
         """Finds what the names of types are those of."""
         for file in self.files:
@@ -254,8 +260,9 @@ class Calls:
         modules: Dict[str, str] = {}
         body = re.sub(r"^\s*(?:pub )?use [^;]*;", "", file.text, flags=re.M)
         for here, steps, passed in file.imports:
-            if steps[0] in self.uses and len(steps) > 1:
-                home, name = self.home(steps[0], steps[-1])
+            above = file.crate if steps[0] == "crate" else steps[0]
+            if above in self.uses and len(steps) > 1:
+                home, name = self.home_of(above, steps[1:])
                 modules[here] = home
                 if not passed or re.search(rf"(?<![\w.:]){here}\(", body):
                     self.put(file.crate, home, "", name)
@@ -270,20 +277,26 @@ class Calls:
             elif steps[0] in self.uses or steps[0] in modules:
                 self.put(file.crate, *self.home(modules.get(steps[0], steps[0]), steps[-1])[:1], "", steps[-1])
         heads = [0, *(found.start() for found in HEAD.finditer(body)), len(body)]
+        owners = [(found.start(), found[3] or found[5]) for found in OPENED.finditer(body)]
         for start, end in zip(heads, heads[1:]):
-            Body(self, file, body[start:end]).read_methods()
+            owner = [name for at, name in owners if at <= start][-1:]
+            Body(self, file, body[start:end], {file.names.get(name, name) for name in owner}).read_methods()
 
 
 class Body:
     """A function's head and body, with the types that its names may have, as far as they are told."""
 
-    def __init__(self, calls: Calls, file: File, text: str) -> None:
-        self.calls, self.file, self.text = calls, file, text
+    def __init__(self, calls: Calls, file: File, text: str, owner: Set[str]) -> None:
+        self.calls, self.file, self.text, self.owner = calls, file, text, owner
         self.bound: Types = collections.defaultdict(set)
         for name, kind in re.findall(rf"\b({WORD}): (&?(?:mut )?(?:dyn )?[^,;)=\n{{]*)", text):
             self.bound[name] |= file.types(kind)
         for found in re.finditer(rf"\blet (?:\w+\()?(?:mut )?({WORD})\)?(?:: [^=;]*)? = ([^;{{]*?)(?:;| else\b| \{{\n)", text):
-            self.bound[found[1]] |= self.types_of(found[2])
+            if not found[2].startswith(("match ", "if ")):
+                self.bound[found[1]] |= self.types_of(found[2])
+        for name, arms in re.findall(rf"\blet (?:mut )?({WORD}) = match [^\n]* \{{\n(.*?)\n\s*\}};", text, re.S):
+            for value in re.findall(r"=> (.*),$", arms, re.M):
+                self.bound[name] |= self.types_of(value)
         for found in re.finditer(rf"\bfor &?({WORD}) in ([^{{\n]*) \{{", text):
             self.bound[found[1]] |= self.types_of(found[2])
         for found in re.finditer(r"\bmatch ([^{\n]*) \{", text):
@@ -334,9 +347,12 @@ class Body:
             at = start_of_list(text)
             called = re.search(rf"((?:{WORD}::)*)({WORD})(?:::<[^<>()]*>)?$", text[:at])
             return self.types_of_call(called, text[:at]) if called else self.types_of(text[at + 1:-1])
+        variant = re.search(rf"\b([A-Z]\w*)::{WORD}$", text)
+        if variant:
+            return {self.file.names.get(variant[1], variant[1])}
         last = re.search(rf"(\.\s*)?({WORD})$", text)
         if not last or last[2] == "self":
-            return {"Self"} if last else set()
+            return self.owner if last else set()
         return self.told(self.calls.fields, last[2]) if last[1] else set(self.bound.get(last[2], ()))
 
     def types_of_call(self, called: "re.Match[str]", text: str) -> Set[str]:
@@ -353,7 +369,7 @@ class Body:
         known = {kind for kind in self.calls.widened(kinds) if f"{kind}::{called[2]}" in results}
         found = {one for kind in known or {"*"} for one in self.told(results, f"{kind}::{called[2]}")}
         if not known and called[2] in PASSING or any(len(kind) == 1 for kind in found):
-            found |= kinds - known
+            found |= {kind for kind in self.calls.widened(kinds) if not known & self.calls.widened({kind})}
         return found
 
 
