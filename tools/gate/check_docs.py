@@ -4,7 +4,8 @@
 usage: tools/gate/check_docs.py [DOCUMENT ...]      without documents: README.md, CHANGELOG.md, docs/*.md, crates/*/*.md and
                                                README.md of editors, examples and tools; that each crate is in crates.txt and in
                                                docs/ARCHITECTURE.md and has its README.md, headed by its name (so do
-                                               pages of a crate's parts, modules of its), and each law (public
+                                               pages of a crate's parts, modules of its) and a table of who calls
+                                               it (docs_callers.py), and each law (public
                                                function of crates/law*) stands in docs/CLAIMS.md;
                                                that README.md has at most 7 KB and its table of sizes is right;
                                                that docs/CHANGING.md lists the files that name every kind or

@@ -12,6 +12,8 @@ import re
 from dataclasses import dataclass, field
 from typing import Dict, Iterable, Iterator, List, Set, Tuple
 
+from docs_english import first_sentence
+
 WORD = r"[A-Za-z_][A-Za-z0-9_]*"
 # Methods of slices, options, numbers and iterators: by its name alone, none of them is a type's of the repository.
 COMMON = {"bytes", "clear", "clone", "contains", "count", "extend", "fill", "find", "first", "get", "get_mut", "insert", "is_empty", "items", "iter", "last",
@@ -39,6 +41,7 @@ class Function:
     owner: str
     name: str
     lent: Tuple[str, ...]
+    does: str
 
 
 @dataclass
@@ -48,6 +51,7 @@ class File:
     module: Tuple[str, ...]
     text: str
     imports: List[Tuple[str, List[str], bool]]
+    does: List[str]
     names: Dict[str, str] = field(default_factory=dict)
 
     def types(self, text: str) -> Set[str]:
@@ -63,6 +67,17 @@ def code_of(text: str) -> str:
     text = re.sub(r"//[^\n]*", "", text)
     text = re.sub(r'b?"(?:[^"\\]|\\.)*"', '""', text)
     return re.sub(r"^\s*(?:ghost use|ensures|requires)\b[^\n]*(?:\n {8}[^\n]*)*", "\n", text, flags=re.M)
+
+
+def does_of(text: str) -> List[str]:
+    """Returns of each function of a source, with its comments, the first sentence of its comment."""
+    text = re.sub(r'extern "C"', 'extern ""', text)
+    found = []
+    for head in HEAD.finditer(text):
+        above = re.search(r"((?:^ *///.*\n)+)(?:^ *#\[.*\n)*\Z", text[:head.start()], re.M)
+        comment = re.sub(r"^ */// ?", "", above[1], flags=re.M) if above else ""
+        found.append(first_sentence(comment.split("\n\n")[0]).replace("`crate::", "`"))
+    return found
 
 
 def parts_of(text: str) -> Iterator[str]:
@@ -158,9 +173,10 @@ class Calls:
                 self.uses[found[1]] = found[2].split()
         for crate in self.uses:
             for path in sorted((top / "crates" / crate).glob("src/**/*.rt")):
-                text = code_of(path.read_text())
+                whole = path.read_text()
+                text = code_of(whole)
                 module = path.relative_to(top / "crates" / crate / "src").with_suffix("").parts
-                self.files.append(File(crate, () if module in (("lib",), ("main",)) else module, text, imports_of(text)))
+                self.files.append(File(crate, () if module in (("lib",), ("main",)) else module, text, imports_of(text), does_of(whole)))
         self.seen = {crate: seen_of(self.files, crate) for crate in self.uses}
         self.below = {crate: self.crates_below(crate) for crate in self.uses}
         self.read_names()
@@ -230,7 +246,7 @@ class Calls:
                     self.fields[name] |= file.types(kind)
                 for name, kind in re.findall(rf"^    (?:pub(?:\([a-z]+\))? )?({WORD}): (.*?),?$", body, re.M):
                     self.fields[name] |= file.types(kind)
-        for head in HEAD.finditer(text):
+        for head, does in zip(HEAD.finditer(text), file.does):
             end = end_of_list(text, head.end())
             given = re.match(r"\)\s*->\s*([^{\n]*)", text[end:])
             above = [found for found in owners if found.start() < head.start()] if head[1] else []
@@ -243,7 +259,7 @@ class Calls:
             modules, names = self.seen[file.crate]
             seen = file.module in modules or (owner or head[3]) in names or 'extern ""' in head[0]
             if seen and (head[2] or above and above[-1][2] == "trait" and above[-1][1]):
-                self.public.append(Function(file.crate, owner, head[3], lent_of(text[head.end():end])))
+                self.public.append(Function(file.crate, owner, head[3], lent_of(text[head.end():end]), does))
 
     def put(self, caller: str, crate: str, owner: str, name: str) -> None:
         """Notes a call, if it is one of another crate's public function."""
@@ -385,12 +401,12 @@ MANY = 9  # crates from which on they are counted, and not named
 
 
 def names_of_calls(functions: List[Function]) -> str:
-    """Returns functions with the type before the first of it: `List::push`, `len`, `new`."""
-    told, owner = [], ""
+    """Returns functions with the type before the first of it: `List::push`, `len`, `new`. A name that is in two modules is told once."""
+    told, owner = {}, ""
     for function in functions:
-        told.append(f"`{function.owner}::{function.name}`" if function.owner and function.owner != owner else f"`{function.name}`")
+        told[f"{function.owner}::{function.name}" if function.owner and function.owner != owner else function.name] = None
         owner = function.owner
-    return ", ".join(told)
+    return listed(told)
 
 
 def listed(names: Iterable[str]) -> str:
@@ -471,6 +487,11 @@ def table_of_calls(top: pathlib.Path, document: pathlib.Path) -> List[str]:
             rows[function.lent, callers_of(calls, function)].append(function)
     lines = ["", "| call | lent for writing | called by |", "|---|---|---|"]
     lines += [f"| {names_of_calls(functions)} | {listed(lent) or 'nothing'} | {by} |" for (lent, by), functions in rows.items()]
+    told = "".join(re.sub(r"<!-- made: .*?<!-- end -->", "", page.read_text(), flags=re.S) for page in document.parent.glob("*.md"))
+    names = set(re.findall(WORD, " ".join(re.findall(r"`([^`]+)`", told))))
+    untold = [f for f in calls.public if f.crate == crate and f.name not in names and f.does and not f.name.startswith("pearoar_")]
+    if untold:
+        lines += ["", "| call not named above | does |", "|---|---|", *(f"| {names_of_calls([f])} | {f.does} |" for f in untold)]
     claims = claims_of(top)
     ways = ways_to_claims(calls, claims, crate)
     by_way = f"by way of {listed(ways) if len(ways) < MANY else f'{len(ways)} crates'}."
