@@ -16,17 +16,18 @@ from docs_english import first_sentence
 
 WORD = r"[A-Za-z_][A-Za-z0-9_]*"
 # Methods of slices, options, numbers and iterators: by its name alone, none of them is a type's of the repository.
-COMMON = {"bytes", "clear", "clone", "contains", "count", "extend", "fill", "find", "first", "get", "get_mut", "insert", "is_empty", "items", "iter", "last",
-          "len", "map", "max", "min", "new", "next", "push", "read", "remove", "set", "swap", "take", "truncate", "write"}
+COMMON = {"bytes", "clear", "clone", "contains", "count", "extend", "fill", "find", "first", "get", "get_mut", "insert", "is_empty", "items", "iter",
+          "last", "len", "map", "max", "min", "new", "next", "push", "read", "remove", "set", "swap", "take", "truncate", "write"}
 # Those whose result has what they are called on.
-PASSING = {"as_mut", "as_ref", "cloned", "copied", "enumerate", "filter", "first", "get", "get_mut", "items", "iter", "iter_mut", "last", "next", "ok",
-           "ok_or", "rev", "skip", "take", "unwrap", "unwrap_or", "zip"}
+PASSING = {"as_mut", "as_ref", "cloned", "copied", "enumerate", "filter", "first", "get", "get_mut", "items", "iter", "iter_mut", "last", "next",
+           "ok", "ok_or", "rev", "skip", "take", "unwrap", "unwrap_or", "zip"}
 
 # Types that hold values of the types that they are given.
 HOLDERS = "Option|Result|Box|ItemList|ItemQueue|LinkedList|Vec"
 
 HEAD = re.compile(rf"^( *)(pub )?(?:const )?(?:unsafe )?(?:extern \"\" )?fn ({WORD})(?:<[^(]*>)?\(", re.M)
-OPENED = re.compile(rf"^(pub(?:\([a-z]+\))? )?(?:unsafe )?(?:(trait|struct|enum|union) ({WORD})|impl(?:<.*?>)? (?:([^{{\n]*?) for )?&?(?:mut )?({WORD}))", re.M)
+OPENED = re.compile(rf"^(pub(?:\([a-z]+\))? )?(?:unsafe )?(?:(trait|struct|enum|union) ({WORD})|"
+                    rf"impl(?:<.*?>)? (?:([^{{\n]*?) for )?&?(?:mut )?({WORD}))", re.M)
 ALIAS = re.compile(rf"^(?:pub )?type ({WORD})[^=;]* =([^;]*);", re.M)
 METHOD = re.compile(rf"\.\s*({WORD})(?:::<[^<>()]*>)?\(")
 PATH = re.compile(rf"(?<![\w.:])({WORD}(?:::(?:<[^<>()]*>::)?{WORD})+)")

@@ -181,14 +181,16 @@ class Callers(Tree):
         super().setUp()
         self.write("crates.txt", "low:\nmid: low\nover: mid\nlaws: low\ntest_low: low\n")
         self.write("crates/low/src/lib.rt", "mod list;\npub mod words;\npub use list::List;\n")
-        self.write("crates/low/src/list.rt", "/// Of words.\npub struct List {\n    words: u32,\n}\n\nimpl List {\n    pub fn put(&mut self, n: u32)\n"
-                   "        ensures { self.new ≡ f (self.old) }\n    {}\n\n    pub fn len(&self) -> u32 {\n        1\n    }\n}\n\npub fn hidden() {}\n")
-        self.write("crates/low/src/words.rt", "/// Tells `n`. Costs nothing.\npub fn told(out: &mut List, n: u32) {}\n\n/// Named on the page.\npub fn alone() {}\n\npub fn tried() {}\n")
+        self.write("crates/low/src/list.rt", "/// Of words.\npub struct List {\n    words: u32,\n}\n\nimpl List {\n"
+                   "    pub fn put(&mut self, n: u32)\n        ensures { self.new ≡ f (self.old) }\n    {}\n\n"
+                   "    pub fn len(&self) -> u32 {\n        1\n    }\n}\n\npub fn hidden() {}\n")
+        self.write("crates/low/src/words.rt", "/// Tells `n`. Costs nothing.\npub fn told(out: &mut List, n: u32) {}\n\n"
+                   "/// Named on the page.\npub fn alone() {}\n\npub fn tried() {}\n")
         self.write("crates/low/README.md", "# `low`\n\nLists, and `alone`.\n\n<!-- made: callers -->\n<!-- end -->\n")
         self.write("crates/mid/src/lib.rt", "use low::{List, words::told};\n\npub struct Held {\n    pub list: List,\n}\n\n"
                    "pub fn go(held: &mut Held) {\n    held.list.put(1); // held.alone()\n    told(&mut held.list, 2);\n}\n")
-        self.write("crates/over/src/lib.rt", "use mid::{Held, go};\n\npub fn top(held: &mut Held, other: &[u32]) {\n    go(held);\n    let list = &held.list;\n"
-                   "    f(list.len() + other.len());\n}\n")
+        self.write("crates/over/src/lib.rt", "use mid::{Held, go};\n\npub fn top(held: &mut Held, other: &[u32]) {\n    go(held);\n"
+                   "    let list = &held.list;\n    f(list.len() + other.len());\n}\n")
         self.write("crates/test_low/src/lib.rt", "fn case() {\n    low::words::tried();\n}\n")
         self.write("docs/CLAIMS.md", "| Words are told. | `words::told` |\n\n## 5. What is trusted\n\n`mid::go`\n")
 
@@ -198,8 +200,8 @@ class Callers(Tree):
         page.write_text(made_text(self.top, page, lambda name: None))
         self.assertEqual(list(faults_of_blocks(self.top, page)), [])
         for row in ("| `List::put` | `self` | `mid` |", "| `List::len` | nothing | `over` |", "| `told` | `out` | `mid` |",
-                    "| `alone` | nothing | no other crate |", "| `tried` | nothing | tests |", "| call not named above | does |\n|---|---|\n| `told` | Tells `n` |\n",
-                    "Claimed in [CLAIMS.md](../../docs/CLAIMS.md): `words::told`."):
+                    "| `alone` | nothing | no other crate |", "| `tried` | nothing | tests |",
+                    "| call not named above | does |\n|---|---|\n| `told` | Tells `n` |\n", "Claimed in [CLAIMS.md](../../docs/CLAIMS.md): `words::told`."):
             self.assertIn(row.rstrip() + "\n", page.read_text())
         for text in ("hidden", "Named on the page"):
             self.assertNotIn(text, page.read_text())
