@@ -401,13 +401,9 @@ APART = ("law", "lemma_", "test_")
 MANY = 9  # crates from which on they are counted, and not named
 
 
-def names_of_calls(functions: List[Function]) -> str:
-    """Returns functions with the type before the first of it: `List::push`, `len`, `new`. A name that is in two modules is told once."""
-    told, owner = {}, ""
-    for function in functions:
-        told[f"{function.owner}::{function.name}" if function.owner and function.owner != owner else function.name] = None
-        owner = function.owner
-    return listed(told)
+def names_of_calls(functions: Iterable[Function]) -> str:
+    """Returns functions, each with its type. A name that is in two modules is told once."""
+    return listed({f"{function.owner}::{function.name}".lstrip(":"): None for function in functions})
 
 
 def listed(names: Iterable[str]) -> str:
