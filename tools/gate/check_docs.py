@@ -4,7 +4,8 @@
 usage: tools/gate/check_docs.py [DOCUMENT ...]      without documents: README.md, CHANGELOG.md, docs/*.md, crates/*/*.md and
                                                README.md of editors, examples and tools; that each crate is in crates.txt and in
                                                docs/ARCHITECTURE.md and has its README.md, headed by its name (so do
-                                               pages of a crate's parts, modules of its), and each law (public
+                                               pages of a crate's parts, modules of its) and a table of who calls
+                                               it (docs_callers.py), and each law (public
                                                function of crates/law*) stands in docs/CLAIMS.md;
                                                that README.md has at most 7 KB and its table of sizes is right;
                                                that docs/CHANGING.md lists the files that name every kind or
@@ -52,6 +53,7 @@ import pathlib
 import re
 import sys
 
+from docs_callers import is_called
 from docs_counts import faults_of_counts
 from docs_english import faults_of_text, words_of_text
 from docs_kernel import faults_of_kernel, ours_of, stored, texts
@@ -164,7 +166,7 @@ class Index:
             above, module, name = definition.groups()
             found = [(path, line) for path, line, _ in self.places[name]
                      if path.stem == module and path.suffix == ".antt" and (not above or above in path.parts)]
-            first = [(path, line) for path, line in found if above or path.parts[-3] in ("journal_model", "ttm_base")]
+            first = [(path, line) for path, line in found if above or {"journal_model", "ttm_base"} & {*path.parts} and "specs" in path.parts]
             return (first or found or [None])[0]
         *above, name = text.split("::")
         found = []
@@ -378,7 +380,8 @@ def link(index, document):
     lines = document.read_text().split("\n")
     for at, line in enumerate(lines):
         if line.startswith("| ") and not re.match(r"\| \[?`crates/", line):
-            lines[at] = re.sub(r"(?<!\[)`([^`]+)`(?!\])", lambda found: f"[`{found[1]}`](.#L1)" if index.place_of(found[1]) else found[0], line)
+            lines[at] = re.sub(r"\[`[^`]+`\]\([^)]*\)|`([^`]+)`",
+                               lambda found: f"[`{found[1]}`](.#L1)" if found[1] and index.place_of(found[1]) else found[0], line)
         elif line.startswith("| `crates/"):
             lines[at] = re.sub(r"^\| `([^`]+)`", r"| [`\1`](../\1)", line)
     document.write_text(linked_text(TOP, document, "\n".join(lines), index.place_of))
@@ -395,7 +398,7 @@ def words_told(documents):
 
 
 def faults_of_pages(index):
-    """Each crate has its page, headed by its name and short."""
+    """Each crate has its page, headed by its name and short, with who calls it."""
     for crate in sorted(index.crates):
         page = TOP / "crates" / crate / "README.md"
         if not page.is_file():
@@ -404,6 +407,8 @@ def faults_of_pages(index):
             yield f"crates/{crate}/README.md:1: its heading isn't the crate's name"
         elif (length := len(BLOCK.sub("", page.read_text()).encode())) > PAGE_BYTES:
             yield f"crates/{crate}/README.md:1: it has {length} bytes, more than {PAGE_BYTES}, without blocks that are made"
+        elif is_called(TOP, crate) and "<!-- made: callers -->" not in page.read_text():
+            yield f"crates/{crate}/README.md:1: it has no block callers"
         for page in sorted((TOP / "crates" / crate).glob("*.md")):
             if page.stem != "README" and page.read_text().splitlines()[:1] != [f"# `{page.stem}`"]:
                 yield f"crates/{crate}/{page.name}:1: its heading isn't the part's name"

@@ -63,12 +63,24 @@ def comparisons(top: pathlib.Path) -> int:
     return len(re.findall(r"^compare (?:each entry|at the end)$", (top / "crates/test_device/stdin").read_text(errors="replace"), re.M))
 
 
+def edits(top: pathlib.Path) -> int:
+    """Counts the edits that must fail."""
+    return len(list((top / "crates").glob("*/must-fail/*.edit")))
+
+
+def crates_with_edits(top: pathlib.Path) -> int:
+    """Counts the crates that have edits that must fail."""
+    return len({path.parent for path in (top / "crates").glob("*/must-fail/*.edit")})
+
+
 COUNTS: Tuple[Count, ...] = (
     Count("README.md", r"some of (\w+) named rules", rules_of_the_kernel),
     Count("docs/CHANGING.md", r"over the (\w+) kinds", kinds),
     Count("docs/CLAIMS.md", r"any of the (\w+) kinds", kinds),
     Count("docs/CLAIMS.md", r"In (\w+) cases the program `test_device`", comparisons),
     Count("docs/DECISIONS.md", r"(\w+) checks follow `rt ci`", checks_after_the_gate),
+    Count("docs/GATE.md", r"edits came: (\w+) in", edits),
+    Count("docs/GATE.md", r"edits came: \w+ in (\w+) crates", crates_with_edits),
     Count("docs/READING.md", r"one step of the manager, and which of (\w+) \|", kinds),
     Count("docs/READING.md", r"has one of (\w+) tasks", tasks),
     Count("crates/room_representation/README.md", r"its (\w+) public functions", public_functions("room_representation")),

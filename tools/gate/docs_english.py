@@ -76,6 +76,13 @@ def faults_of_text(text: str) -> Iterator[Tuple[int, str]]:
             yield plain.count("\n", 0, start) + 1, f'"{words[:40]}" is hard to read; better: {phrase.better}'
 
 
+def first_sentence(text: str) -> str:
+    """Returns the first sentence of a paragraph, in one line and without its end."""
+    words = " ".join(text.split())
+    found = re.match(r"(.*?[^.])[.:](?=\s[A-Z`\[]|$)", words)
+    return (found[1] if found else words).rstrip(".:")
+
+
 def words_of_text(text: str) -> int:
     """Returns how many words a document has: those with a letter, outside of code, names in backquotes, targets of links, blocks and
     rows of files that are made from the sources, and rules of tables."""

@@ -6,6 +6,8 @@ A block that is made stands between `<!-- made: WHAT -->` and `<!-- end -->`:
   crates     in docs/ARCHITECTURE.md: the crates in the groups of crates.txt, each with the first sentence of its page
   modules    on a crate's page: its modules, each with the first sentence of its head (`//!`)
   edits      in docs/CLAIMS.md: the edits that must fail, by the function that they turn (docs_edits.py)
+  callers    on a crate's page: its public functions, what is lent to them for writing, which crates call them, what those do that the
+             page doesn't name, and the claims and laws that go with the crate (docs_callers.py)
 """
 from __future__ import annotations
 
@@ -14,7 +16,9 @@ import pathlib
 import re
 from typing import Callable, Dict, Iterator, List, Optional, Tuple
 
+from docs_callers import table_of_calls
 from docs_edits import table_of_edits
+from docs_english import first_sentence
 from docs_lists import TABLES, files_of, rows_of
 
 WORD = r"[A-Za-z_][A-Za-z0-9_]*"
@@ -72,13 +76,6 @@ def listed_text(top: pathlib.Path, text: str) -> str:
             end += 1
         lines[start:end] = rows_of(files_of(top, table))
     return "\n".join(lines)
-
-
-def first_sentence(text: str) -> str:
-    """Returns the first sentence of a paragraph, in one line and without its end."""
-    words = " ".join(text.split())
-    found = re.match(r"(.*?[^.])[.:](?=\s[A-Z`\[]|$)", words)
-    return (found[1] if found else words).rstrip(".:")
 
 
 def page_sentence(page: pathlib.Path) -> str:
@@ -140,6 +137,7 @@ def table_of_modules(top: pathlib.Path, document: pathlib.Path) -> List[str]:
 
 BLOCKS: Dict[str, Callable[[pathlib.Path, pathlib.Path], List[str]]] = {
     "crates": table_of_crates, "modules": table_of_modules, "edits": lambda top, document: table_of_edits(top, groups(top)),
+    "callers": table_of_calls,
 }  # fmt: skip
 
 

@@ -9,6 +9,7 @@ import unittest
 
 import check_docs
 import docs_english
+from docs_callers import claims_of, is_called, table_of_calls
 from docs_counts import Count, faults_of_counts, number_of
 from docs_edits import Edit, edits_of, function_at, rows_of_edits
 from docs_english import PHRASES, faults_of_text, words_of_text
@@ -177,6 +178,55 @@ class Made(Tree):
         self.assertEqual(words_of_text(text), 3)
 
 
+class Callers(Tree):
+    def setUp(self) -> None:
+        super().setUp()
+        self.write("crates.txt", "low:\nmid: low\nover: mid\nlaws: low\ntest_low: low\n")
+        self.write("crates/low/src/lib.rt", "mod list;\npub mod words;\npub use list::List;\n")
+        self.write("crates/low/src/list.rt", "/// Of words.\npub struct List {\n    words: u32,\n}\n\nimpl List {\n"
+                   "    pub fn put(&mut self, n: u32)\n        ensures { self.new ≡ f (self.old) }\n    {}\n\n"
+                   "    pub fn len(&self) -> u32 {\n        1\n    }\n}\n\npub fn hidden() {}\n")
+        self.write("crates/low/src/words.rt", "/// Tells `n`. Costs nothing.\npub fn told(out: &mut List, n: u32) {}\n\n"
+                   "/// Named on the page.\npub fn alone() {}\n\npub fn tried() {}\n")
+        self.write("crates/low/README.md", "# `low`\n\nLists, and `alone`.\n\n<!-- made: callers -->\n<!-- end -->\n")
+        self.write("crates/mid/src/lib.rt", "use low::{List, words::told};\n\npub struct Held {\n    pub list: List,\n}\n\n"
+                   "pub fn go(held: &mut Held) {\n    held.list.put(1); // held.alone()\n    told(&mut held.list, 2);\n}\n")
+        self.write("crates/over/src/lib.rt", "use mid::{Held, go};\n\npub fn top(held: &mut Held, other: &[u32]) {\n    go(held);\n"
+                   "    let list = &held.list;\n    f(list.len() + other.len());\n}\n")
+        self.write("crates/test_low/src/lib.rt", "fn case() {\n    low::words::tried();\n}\n")
+        self.write("docs/CLAIMS.md", "| Words are told. | `words::told` |\n\n## 5. What is trusted\n\n`mid::go`\n")
+
+    def test_a_table_of_callers(self) -> None:
+        page = self.top / "crates/low/README.md"
+        self.assertEqual(len(list(faults_of_blocks(self.top, page))), 1)
+        page.write_text(made_text(self.top, page, lambda name: None))
+        self.assertEqual(list(faults_of_blocks(self.top, page)), [])
+        for row in ("| `List::put` | `self` | `mid` |", "| `List::len` | nothing | `over` |", "| `told` | `out` | `mid` |",
+                    "| `alone` | nothing | no other crate |", "| `tried` | nothing | tests |",
+                    "| call not named above | does |\n|---|---|\n| `told` | Tells `n` |\n", "Claimed in [CLAIMS.md](../../docs/CLAIMS.md): `words::told`."):
+            self.assertIn(row.rstrip() + "\n", page.read_text())
+        for text in ("hidden", "Named on the page"):
+            self.assertNotIn(text, page.read_text())
+
+    def test_a_wrong_caller_is_found(self) -> None:
+        page = self.top / "crates/low/README.md"
+        page.write_text(made_text(self.top, page, lambda name: None).replace("| `self` | `mid` |", "| `self` | `over` |"))
+        self.assertEqual([fault for _, fault in faults_of_blocks(self.top, page)],
+                         ["tools/gate/check_docs.py --write has here: | `List::put` | `self` | `mid` |"])
+
+    def test_claims_rest_on_a_crate_by_its_callers(self) -> None:
+        self.write("docs/CLAIMS.md", "| All is told. | `over::top`, `laws::are_kept` |\n")
+        self.assertIn("Claims ([CLAIMS.md](../../docs/CLAIMS.md)) rest on it by way of `over`, `laws`.",
+                      table_of_calls(self.top, self.top / "crates/low/README.md"))
+        self.write("docs/CLAIMS.md", "| All is told. | `over::top`, `low::words::told` |\n")
+        claims_of.cache_clear()
+        self.assertIn("Claimed in [CLAIMS.md](../../docs/CLAIMS.md): `words::told`. More rests on it by way of `over`.",
+                      table_of_calls(self.top, self.top / "crates/low/README.md"))
+
+    def test_crates_that_programs_call(self) -> None:
+        self.assertEqual([name for name in ("low", "laws", "test_low") if is_called(self.top, name)], ["low"])
+
+
 class Counts(Tree):
     def test_numbers(self) -> None:
         self.assertEqual([number_of(word) for word in ("seven", "Twelve", "26", "many")], [7, 12, 26, -1])
@@ -221,6 +271,15 @@ class Links(Tree):
             with self.subTest(target):
                 self.assertEqual(check_docs.fault_of_link(document, target) is None, right)
 
+    def test_names_after_a_link_are_linked_too(self) -> None:
+        class Found:
+            @staticmethod
+            def place_of(name):
+                return (self.top / "a.rt", 7) if name in ("a", "b") else None
+
+        document = self.write("docs/D.md", "| [`a`](../a.rt#L7), `b`, `c` |\n")
+        check_docs.link(Found, document)
+        self.assertEqual(document.read_text(), "| [`a`](../a.rt#L7), [`b`](../a.rt#L7), `c` |\n")
 
 
 class Edits(unittest.TestCase):
