@@ -4,6 +4,8 @@
 # Each fault is a line; the exit status is 1 if there is one. It takes a minute.
 #
 # usage: tools/gate/check_launcher.sh
+# Runs itself again with the signals that a case sends, since a shell starts what runs in its background without them.
+[ -n "${signals_as_usual-}" ] || signals_as_usual=1 exec env --default-signal=INT,QUIT "$0" "$@"
 set -um
 top=$(cd "$(dirname "$0")/../.." && pwd)
 room=$(mktemp -d)
