@@ -3,3 +3,4 @@ pub mod Firsts
 pub mod Unfenced
 pub mod Told
 pub mod Marked
+pub mod Stretches
