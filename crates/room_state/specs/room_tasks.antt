@@ -1,2 +1,3 @@
 pub mod Mentions
 pub mod Seen
+pub mod Stretch

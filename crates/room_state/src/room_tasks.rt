@@ -4,6 +4,7 @@ mod mentions;
 mod queries;
 mod ready;
 mod standing;
+mod stretch;
 mod tasks;
 
 pub use mentions::first_missing;

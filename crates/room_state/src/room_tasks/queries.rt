@@ -35,7 +35,7 @@ fn command_of<'a>(script: &'a Script, course: &Course, thread: u32) -> Option<&'
 }
 
 /// Returns the first buffer named by `command` that isn't ready: the one at work. Takes time by the command's operations, and by the spans and
-/// places of their buffers.
+/// places of each buffer that they name, once however many of them name it.
 pub fn first_unready(
     parts: &Parts,
     script: &Script,
@@ -70,7 +70,7 @@ pub fn gives_back(parts: &Parts, script: &Script, before: &[Entry], b: BufId) ->
 }
 
 /// Returns what `thread` has to do next, which is nothing where there is no such thread. Takes time by the operations of its command and the buffers
-/// that it holds, and by the spans and places of named buffers.
+/// that it holds, and by the spans and places of each buffer that they name, once however many of them name it.
 pub fn task_of(parts: &Parts, script: &Script, before: &[Entry], thread: u32) -> Task
     requires { AreHeld script.now before.now parts.now }
     ensures { result ≡ words.task_of script.now (state_of script.now before.now) thread }

@@ -1,8 +1,10 @@
 use Rattle.std.proofs.Common.{◌≡◌, find, flat_map}
 use Rattle.std.specs.Prelude.{drop}
 use Rattle.journal_model.specs.rules.Commands.{buffers_of_op}
-use Rattle.room_state.specs.room_tasks.Seen.{is_unready}
+use Rattle.room_state.specs.room_tasks.Seen.{is_unready, AreReady}
 use Rattle.room_state.proofs.room_tasks.ready.unready_in.Given as goal
 
 abbrev pub invariant-loop-op : goal.invariant-loop-op
-invariant-loop-op l = find (is_unready l.script l.bos l.command) (flat_map buffers_of_op l.ops) ≡ find (is_unready l.script l.bos l.command) (flat_map buffers_of_op (drop l.op-index l.ops))
+invariant-loop-op l =
+    AreReady l.script l.bos l.command l.known
+    × (find (is_unready l.script l.bos l.command) (flat_map buffers_of_op l.ops) ≡ find (is_unready l.script l.bos l.command) (flat_map buffers_of_op (drop l.op-index l.ops)))
