@@ -99,7 +99,7 @@ threads_all : (script : Script) (courses : List Course)
 threads_all script courses =
     let tickets = filter_map (ticketed_in courses) (thread_numbers script) in
     ap (λ (ts : List Ticketed). map (λ (t : Ticketed). actor.Thread t.thread) (sorted_by_stamp ts) ++ others_from script courses 1)
-      (filter_keeps (comes_after None) tickets (none_last tickets))
+    (filter_keeps (comes_after None) tickets (none_last tickets))
     ∙ ap (λ (os : List Actor). map (λ (t : Ticketed). actor.Thread t.thread) (sorted_by_stamp tickets) ++ os) (others_all script courses)
 
 -- where nobody was asked, all are left

@@ -65,7 +65,7 @@ least_low (x ∷ xs) m e = by (least_by (λ x. x.stamp) xs) refl e (λ u f. leas
     by None f g rest =
         let it : x ≡ m = cc in
         subst (λ w. AllByRecursion (λ v. w.stamp ≤ v.stamp) (x ∷ xs)) it
-          (omega arith, subst (λ ys. AllByRecursion (λ v. x.stamp ≤ v.stamp) ys) (sym (none_least xs f)) tt)
+        (omega arith, subst (λ ys. AllByRecursion (λ v. x.stamp ≤ v.stamp) ys) (sym (none_least xs f)) tt)
     by (Some u) f g rest = pick (nat_lt u.stamp x.stamp) refl g
       where
         pick : (b : Bool) → nat_lt u.stamp x.stamp ≡ b → Some (cond b u x) ≡ Some m → AllByRecursion (λ v. m.stamp ≤ v.stamp) (x ∷ xs)
@@ -200,7 +200,7 @@ sorted_first (t ∷ xs) m r e = by (least_by (λ x. x.stamp) xs) refl e (λ u f.
     by None f g rest =
         let it : t ≡ m = cc in
         subst (λ w. sorted_by_stamp (t ∷ xs) ≡ w ∷ sorted_by_stamp (filter (comes_after (Some w)) (t ∷ xs))) it
-          (subst (λ ys. sorted_by_stamp (t ∷ ys) ≡ t ∷ sorted_by_stamp (filter (comes_after (Some t)) (t ∷ ys))) (sym (none_least xs f)) (alone t))
+        (subst (λ ys. sorted_by_stamp (t ∷ ys) ≡ t ∷ sorted_by_stamp (filter (comes_after (Some t)) (t ∷ ys))) (sym (none_least xs f)) (alone t))
     by (Some u) f g rest = pick (nat_lt u.stamp t.stamp) refl g
       where
         pick : (b : Bool) → nat_lt u.stamp t.stamp ≡ b → Some (cond b u t) ≡ Some m
@@ -214,4 +214,4 @@ sorted_first (t ∷ xs) m r e = by (least_by (λ x. x.stamp) xs) refl e (λ u f.
             let low : t.stamp ≤ u.stamp = grind (arith, nat_tests) in
             let all = after_each t xs (all_from t.stamp u.stamp xs low (least_low xs u f)) r.0 in
             subst (λ w. sorted_by_stamp (t ∷ xs) ≡ w ∷ sorted_by_stamp (filter (comes_after (Some w)) (t ∷ xs))) it
-              (itself_first t u xs (sorted_by_stamp (filter (comes_after (Some u)) xs)) low all (rest u f))
+            (itself_first t u xs (sorted_by_stamp (filter (comes_after (Some u)) xs)) low all (rest u f))

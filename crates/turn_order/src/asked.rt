@@ -19,7 +19,7 @@ pub(crate) enum Asked {
 }
 
 impl Asked {
-    /// Names the actor.
+    /// Returns the actor.
     pub(crate) fn actor(self) -> Actor
         ensures { result ≡ actor_of self }
     {
@@ -32,7 +32,7 @@ impl Asked {
     }
 }
 
-/// Finds the first thread without a ticket above thread `last`.
+/// Returns the first thread without a ticket above the thread numbered `last`, or `None` if there is none.
 fn other_after(script: &Script, courses: &Courses, last: u32) -> Option<Asked>
     requires { length script.now.threads < 2 ^ 32 }
     ensures { Begins script.now courses.now (others_from script.now courses.now (last + 1)) result }
@@ -46,7 +46,7 @@ fn other_after(script: &Script, courses: &Courses, last: u32) -> Option<Asked>
     None
 }
 
-/// Finds the thread of the oldest ticket that comes after `last`, or else the first thread without a ticket.
+/// Returns the thread of the oldest ticket that comes after `last`, or else the first thread without a ticket. `None` if neither is left.
 fn thread_after(script: &Script, courses: &Courses, last: Option<Ticket>) -> Option<Asked>
     requires { length script.now.threads < 2 ^ 32 }
     ensures { Begins script.now courses.now (threads_after script.now courses.now (option_map ticketed_of last)) result }
@@ -58,7 +58,7 @@ fn thread_after(script: &Script, courses: &Courses, last: Option<Ticket>) -> Opt
 }
 
 impl Asked {
-    /// Finds who is asked after this actor.
+    /// Returns who is asked after this actor, or `None` if it is the last.
     fn next(self, script: &Script, courses: &Courses) -> Option<Asked>
         requires { length script.now.threads < 2 ^ 32 }
         ensures { Begins script.now courses.now (left_after script.now courses.now self) result }
@@ -78,12 +78,8 @@ impl Asked {
     }
 }
 
-/// Finds who is asked after `last`, or who is asked first.
-pub(crate) fn asked_after(
-    script: &Script,
-    courses: &Courses,
-    last: Option<Asked>,
-) -> Option<Asked>
+/// Returns who is asked after `last`, or who is asked first if nobody was.
+pub(crate) fn asked_after(script: &Script, courses: &Courses, last: Option<Asked>) -> Option<Asked>
     requires { length script.now.threads < 2 ^ 32 }
     ensures { Begins script.now courses.now (left_behind script.now courses.now last) result }
 {

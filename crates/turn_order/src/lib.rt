@@ -24,15 +24,15 @@ pub struct TurnOrder {
 }
 
 impl TurnOrder {
-    /// Begins a walk: nobody was asked yet.
+    /// Returns a walk in which nobody was asked yet.
     pub fn new() -> TurnOrder
         ensures { (script : Script) (s : State) → left script s.courses result ≡ own_order script s }
     {
         TurnOrder { last: None }
     }
 
-    /// Gives the actor that is asked next, by the engines and threads of `script` and the tickets in `courses`; none where all were asked.
-    /// Takes as many steps as there are threads.
+    /// Returns the actor that is asked next, by the engines and threads of `script` and the tickets in `courses`, or `None` if all were
+    /// asked. Takes as many steps as there are threads.
     pub fn next(&mut self, script: &Script, courses: &Courses) -> Option<Actor>
         requires { length script.now.threads < 2 ^ 32 }
         ensures some { IfSome result (λ who. left script.now courses.now self.old ≡ who ∷ left script.now courses.now self.new) }

@@ -10,11 +10,11 @@ use ttm_base::Stamp;
 pub(crate) struct Ticket {
     /// The number of the thread.
     pub thread: u32,
-    /// The number of its ticket.
+    /// The stamp of its ticket.
     pub stamp: Stamp,
 }
 
-/// Reads the number of a thread's ticket, if it has one.
+/// Returns the stamp of the ticket of the thread numbered `thread`, if it has one.
 fn stamp_of(courses: &Courses, thread: u32) -> Option<Stamp>
     ensures { result ≡ stamp_in courses.now thread }
 {
@@ -27,14 +27,14 @@ fn stamp_of(courses: &Courses, thread: u32) -> Option<Stamp>
     }
 }
 
-/// Tells whether a thread has no ticket.
+/// Returns whether the thread numbered `thread` has no ticket.
 pub(crate) fn has_no_ticket(courses: &Courses, thread: u32) -> bool
     ensures { result ≡ is_none (stamp_in courses.now thread) }
 {
     stamp_of(courses, thread).is_none()
 }
 
-/// Reads a thread's ticket, if it has one.
+/// Returns the thread numbered `thread` with its ticket, if it has one.
 fn ticket_of(courses: &Courses, thread: u32) -> Option<Ticket>
     ensures { option_map ticketed_of result ≡ ticketed_in courses.now thread }
 {
@@ -45,7 +45,7 @@ fn ticket_of(courses: &Courses, thread: u32) -> Option<Ticket>
 }
 
 impl Ticket {
-    /// Tells whether the ticket comes after `last`: it is younger, or as old and of a higher thread. Each comes after none.
+    /// Returns whether the ticket comes after `last`: it is younger, or as old and of a higher thread. Each comes after none.
     fn comes_after(self, last: Option<Ticket>) -> bool
         ensures { result ≡ comes_after (option_map ticketed_of last) (ticketed_of self) }
     {
@@ -58,7 +58,7 @@ impl Ticket {
         }
     }
 
-    /// Chooses the older of the ticket and `least`, if there is one: `least` where both are as old.
+    /// Returns the older of the ticket and `least`, if there is one: `least` if both are as old.
     fn older(self, least: Option<Ticket>) -> Ticket
         ensures { ticketed_of result ≡ older (option_map ticketed_of least) (ticketed_of self) }
     {
@@ -75,7 +75,7 @@ impl Ticket {
     }
 }
 
-/// Chooses the older of `least` and `ticket`, if there is one and it comes after `last`.
+/// Returns the older of `least` and `ticket`, if there is one and it comes after `last`; else `least`.
 fn least_of(least: Option<Ticket>, ticket: Option<Ticket>, last: Option<Ticket>) -> Option<Ticket>
     ensures { option_map ticketed_of result ≡ least_with (option_map ticketed_of last) (option_map ticketed_of least) (option_map ticketed_of ticket) }
 {
@@ -91,7 +91,7 @@ fn least_of(least: Option<Ticket>, ticket: Option<Ticket>, last: Option<Ticket>)
     }
 }
 
-/// Finds the oldest ticket that comes after `last`: of two as old that of the lower thread.
+/// Returns the oldest ticket that comes after `last`, of two as old that of the lower thread, or `None` if none comes after it.
 pub(crate) fn ticket_after(
     script: &Script,
     courses: &Courses,

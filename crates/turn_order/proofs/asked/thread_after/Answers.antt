@@ -13,4 +13,4 @@ pub returns-in-None : goal.returns-in-None
 returns-in-None c =
     let last = option_map ticketed_of c.args.last in
     begins_same c.args.script.now c.args.courses.now (threads_after c.args.script.now c.args.courses.now last) (others_from c.args.script.now c.args.courses.now 1)
-      c.other_after.result (threads_past c.args.script.now c.args.courses.now last (sym c.in-None.ensures)) c.other_after.ensures
+    c.other_after.result (threads_past c.args.script.now c.args.courses.now last (sym c.in-None.ensures)) c.other_after.ensures
