@@ -1,4 +1,4 @@
--- The actors that are left: the first of them, and those behind it.
+-- The actors that are left: the first of them, and those after it.
 use Rattle.std.proofs.Common.{◌≡◌, ℕ, suc, ◌+◌, ◌-◌, ◌<◌, ◌≤◌, Bool, true, false, cond, List, [], ◌∷◌, ◌++◌, length, Option, Some, None, refl, sym, ap, subst, ◌∙◌, append_assoc, arith}
 use Rattle.std.specs.Prelude.{filter, filter_map, is_none, map}
 use Rattle.std.specs.List.{AllByRecursion}
