@@ -8,6 +8,8 @@ use Rattle.journal_model.specs.declared.entry.Entry.{Entry}
 use Rattle.journal_model.specs.statements.Complete.{is_complete}
 use Rattle.journal_model.specs.statements.DeadEnd.{can_step}
 use Rattle.journal_model.specs.statements.Scheduled.{own_order}
+use Rattle.turn_order.specs.declared.TurnOrder.{TurnOrder}
+use Rattle.turn_order.specs.Left.{left}
 pub use Rattle.room_state.specs.room_turns.Turns.{Kept, state_behind, world_behind, with_entry, entry_of, after_step}
 
 -- the answer to a turn of an actor with the given next entry or need, where the journal isn't complete
@@ -30,6 +32,10 @@ goes_on k who = can_step k.script (state_behind k) who
 -- the actors in the order in which the simulator looks for one that has an entry
 abbrev pub order_of : Kept → List Actor
 order_of k = own_order k.script (state_behind k)
+
+-- the actors of it that are still to be asked
+abbrev pub left_in : Kept → TurnOrder → List Actor
+left_in k order = left k.script (state_behind k).courses order
 
 -- the first actor in that order that has an entry
 abbrev pub next_actor : Kept → Option Actor

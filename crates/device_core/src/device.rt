@@ -1,4 +1,4 @@
-ghost use Rattle.std.specs.Prelude.{◌≡◌, ◌↔◌, [], false, IfOk, OnOk, OnErr, IsTrue, find};
+ghost use Rattle.std.specs.Prelude.{◌≡◌, ◌↔◌, ◌∷◌, [], false, IfNone, IfOk, IfSome, OnOk, OnErr, IsTrue};
 ghost use Rattle.journal_model.specs.scripts.ScriptRules.{is_script};
 ghost use Rattle.journal_model.specs.statements.Complete.{is_complete};
 ghost use Rattle.journal_model.specs.rules.Legal.{IsLegal, made_of, state_of};
@@ -10,7 +10,7 @@ ghost use Rattle.laws.specs.law_sound.Sound.{SomeGoesOn};
 ghost use Rattle.page_accounts.specs.Accounts.{AreAccountsOf};
 ghost use Rattle.device_core.specs.Done.{done_of};
 ghost use Rattle.device_core.specs.Mapped.{NamePlaces};
-ghost use Rattle.device_core.specs.Kept.{entry_of, after_step, turn_of, after_turn, goes_on, order_of, next_actor, after_found};
+ghost use Rattle.device_core.specs.Kept.{entry_of, after_step, turn_of, after_turn, goes_on, left_in, next_actor, after_found};
 
 use crate::follow::follow;
 use cpu_maps::CpuMaps;
@@ -19,10 +19,10 @@ use page_accounts::Accounts;
 use room_accounts::accounts_of;
 use room_device::turn;
 use room_state::room_turns::{Rooms, Step};
-use room_state::turn_order::own_order;
 use std::alloc::Global;
 use std::marker::Model;
-use ttm_base::{Actor, ItemList, NoMemory, Turn};
+use ttm_base::{Actor, NoMemory, Turn};
+use turn_order::TurnOrder;
 
 /// A memory manager that runs a script, and the journal of what it did.
 pub struct Device {
@@ -51,6 +51,16 @@ impl Model for Device {
     ghost view = { λ d. d.rooms };
 
     ghost invariant = { λ d. IsDevice d.rooms d.maps };
+}
+
+/// Returns the actor that `order` asks next in the state of `rooms`, or `None` if all were asked.
+fn asked_next(rooms: &Rooms, order: &mut TurnOrder) -> Option<Actor>
+    ensures some { IfSome result (λ who. left_in rooms.now order.old ≡ who ∷ left_in rooms.now order.new) }
+    ensures none { IfNone result (left_in rooms.now order.old ≡ []) }
+{
+    let script = rooms.script();
+    let parts = rooms.parts();
+    order.next(script, &parts.courses)
 }
 
 impl Device {
@@ -174,26 +184,12 @@ impl Device {
         }
     }
 
-    /// Makes the next entry of the first of `actors` that has one, and returns that actor, or None where none has one.
-    fn step_first(&mut self, actors: &[Actor]) -> Result<Option<Actor>, NoMemory>
-        ensures found { IfOk result (λ found. found ≡ find (goes_on self.old) actors.now) }
-        ensures made { OnOk result (self.new ≡ after_found self.old (find (goes_on self.old) actors.now)) }
-        ensures err { OnErr result (self.new ≡ self.old) }
+    /// Returns the actor that `order` asks next, or `None` if all were asked.
+    fn next_asked(&self, order: &mut TurnOrder) -> Option<Actor>
+        ensures some { IfSome result (λ who. left_in self.now order.old ≡ who ∷ left_in self.now order.new) }
+        ensures none { IfNone result (left_in self.now order.old ≡ []) }
     {
-        for who in actors {
-            if self.try_step(*who)? {
-                return Ok(Some(*who));
-            }
-        }
-        Ok(None)
-    }
-
-    /// Returns the actors in the order in which the simulator looks for one that has an entry.
-    fn order(&self) -> Result<ItemList<Actor>, NoMemory>
-        ensures { IfOk result (λ order. order ≡ order_of self.now) }
-    {
-        let rooms = &self.rooms;
-        own_order(self.alloc, rooms.parts(), rooms.script(), rooms.journal())
+        asked_next(&self.rooms, order)
     }
 
     /// Takes a turn where no schedule says whose: the first actor in the simulator's own order that has an entry makes it. Returns that actor, or
@@ -207,7 +203,13 @@ impl Device {
         ensures made { OnOk result (self.new ≡ after_found self.old (next_actor self.old)) }
         ensures err { OnErr result (self.new ≡ self.old) }
     {
-        let order = self.order()?;
-        self.step_first(order.items())
+        let mut order = TurnOrder::new();
+        while let Some(who) = self.next_asked(&mut order) {
+            let made = self.try_step(who)?;
+            if made {
+                return Ok(Some(who));
+            }
+        }
+        Ok(None)
     }
 }

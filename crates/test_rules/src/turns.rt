@@ -1,11 +1,12 @@
 use crate::making::{core_of, job_of, script_of, state_of};
 use journal_model::{Buffers, Courses, Ghosts, Jobs, Script, State};
-use rules_next::rules_schedule::{is_over, next_actor, own_order};
+use rules_next::rules_schedule::{is_over, next_actor};
 use rules_search::has_room;
 use rules_state::new_course;
 use std::alloc::Global;
 use std::process::Abort;
-use ttm_base::{Actor, JobId, NoMemory, Stamp};
+use ttm_base::{Actor, JobId, Stamp};
+use turn_order::TurnOrder;
 
 const JOB: JobId = JobId { ctx: 1, num: 1 };
 
@@ -50,14 +51,20 @@ const ORDER: &[Actor] = &[
 ];
 
 /// Returns whether the order of the actors is this one.
-fn has_order(alloc: Global, script: &Script, state: &State, want: &[Actor]) -> bool {
+fn has_order(script: &Script, state: &State, want: &[Actor]) -> bool {
     if !has_room(script, state) {
         return false;
     }
-    match own_order(alloc, script, state) {
-        Ok(order) => order.items() == want,
-        Err(NoMemory) => false,
+    let mut order = TurnOrder::new();
+    for who in want {
+        let Some(next) = order.next(script, &state.courses) else {
+            return false;
+        };
+        if next != *who {
+            return false;
+        }
     }
+    order.next(script, &state.courses).is_none()
 }
 
 /// Returns whether the actor is the first that has an entry.
@@ -76,7 +83,7 @@ fn engines_go_before_threads_and_elders_before_others(rt: HostRuntime) {
     let alloc = rt.alloc();
     let script = script_of(&rt, alloc, SCRIPT);
     let mut state = state_with_tickets(&rt, alloc);
-    let is_ordered = has_order(alloc, &script, &state, ORDER)
+    let is_ordered = has_order(&script, &state, ORDER)
         && goes_next(alloc, &script, &state, Actor::Engine(1))
         && !is_over(&script, &state);
     state.core.jobs.finish(JOB);
