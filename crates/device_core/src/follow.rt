@@ -7,6 +7,7 @@ ghost use Rattle.map_follow.specs.Laws.{areas_after};
 
 use cpu_maps::CpuMaps;
 use journal_model::Entry;
+use map_access::MarkSearch;
 use map_follow::{answerer, end_mappings, fault_in, found_by, leave};
 use room_state::Rooms;
 
@@ -17,17 +18,18 @@ fn follow_answer(maps: &mut CpuMaps, rooms: &Rooms, before: &[Entry], entry: &En
     ensures { maps.new ≡ areas_after rooms.now.script (state_of rooms.now.script before.now) entry.now maps.old }
 {
     let _legal = rooms.journal();
-    let script = rooms.script();
+    let search = MarkSearch::of_script(rooms.script());
     let answered = u64::from(rooms.course(thread).answered);
-    if let Some(found) = found_by(script, answered - 1, entry) {
+    if let Some(found) = found_by(&search, answered - 1, entry) {
         let bo = rooms.bos().get(found.pages.b);
         fault_in(maps, found, bo.mem, bo.spans.items(), bo.table.places());
     }
-    end_mappings(maps, script, thread, answered);
+    end_mappings(maps, &search, thread, answered);
 }
 
-/// Does to `maps` what the last entry does. Takes no memory. Takes constant time without mappings, else that of a walk of the script's marks where
-/// the entry answers a thread, of the mappings, and of the pages whose entries go.
+/// Does to `maps` what the last entry does. Takes no memory. Takes constant time without mappings. Else takes that of the mappings and of the pages
+/// whose entries go and, where the entry answers a thread, that of a search by halves among the script's marks and of the marks at the command; for
+/// a peek or poke also of the thread's marks above it.
 pub(crate) fn follow(maps: &mut CpuMaps, rooms: &Rooms)
     ensures { (before : List OneEntry) (entry : OneEntry) → rooms.now.journal ≡ before ++ entry ∷ [] → maps.new ≡ areas_after rooms.now.script (state_of rooms.now.script before) entry maps.old }
 {

@@ -58,7 +58,7 @@ not_found p r rest h = by_test (p r) h
     by_test true e = cc
     by_test false e = refl
 
-here : (p : Mapping → Bool) (m : Mark) (behind : List Mark) (k : MarkKind) (rest : List Mapping) → list_any p (mapping_of m behind k) ≡ true
+pub here : (p : Mapping → Bool) (m : Mark) (behind : List Mark) (k : MarkKind) (rest : List Mapping) → list_any p (mapping_of m behind k) ≡ true
     → option_map (λ m. m.from) (find p (mapping_of m behind k ++ rest)) ≡ Some m.after
 here p m behind (mark.Map b) rest h = found p _ rest h
 here p m behind (mark.Unmap b) rest h = cc
@@ -67,7 +67,7 @@ here p m behind (mark.Vmap va n b off) rest h = cc
 here p m behind (mark.Vunmap va n) rest h = cc
 here p m behind (mark.Vsubmit ops) rest h = cc
 
-beyond : (p : Mapping → Bool) (m : Mark) (behind : List Mark) (k : MarkKind) (rest : List Mapping) → list_any p (mapping_of m behind k) ≡ false
+pub beyond : (p : Mapping → Bool) (m : Mark) (behind : List Mark) (k : MarkKind) (rest : List Mapping) → list_any p (mapping_of m behind k) ≡ false
     → find p (mapping_of m behind k ++ rest) ≡ find p rest
 beyond p m behind (mark.Map b) rest h = not_found p _ rest h
 beyond p m behind (mark.Unmap b) rest h = refl

@@ -1,3 +1,5 @@
 pub mod Accesses
 pub mod Counts
+pub mod Order
 pub mod Pages
+pub mod Parts

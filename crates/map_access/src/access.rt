@@ -5,9 +5,10 @@ ghost use Rattle.journal_model.specs.rules.Commands.{commands_of};
 ghost use Rattle.journal_model.specs.statements.Complete as complete;
 ghost use Rattle.journal_model.specs.marks.Marks as marks;
 ghost use Rattle.journal_model.specs.marks.Mapped as words;
-ghost use Rattle.journal_model.specs.marks.Mapped.{is_through, mapping_of};
+ghost use Rattle.journal_model.specs.marks.Mapped.{is_through, mapping_of, mappings_in};
 ghost use Rattle.map_access.specs.Accesses.{access_in, has_ended_by, is_way_of, mapped_from, paged};
 
+use crate::search::MarkSearch;
 use journal_model::{Command, Entry, Kind, Mark, MarkKind, Script};
 use ttm_base::limits::PAGE_BYTES;
 use ttm_base::{Actor, BufId};
@@ -82,20 +83,20 @@ fn has_way(all: &[Mark], thread: u64, n: u64) -> bool
     all.iter().any(|mark| is_way_of(thread, n, mark))
 }
 
-fn is_mapped_at(script: &Script, thread: u64, n: u64) -> bool
-    ensures { result ≡ marks.is_mapped_at script.now thread n }
+fn is_mapped_at(search: &MarkSearch, thread: u64, n: u64) -> bool
+    ensures { result ≡ marks.is_mapped_at search.now thread n }
 {
-    has_way(script.marks.items(), thread, n)
+    has_way(search.part(thread, n, n), thread, n)
 }
 
 /// Returns the pages of the command of `thread` that follows `n` others, if it is a peek or poke.
-fn peek_or_poke(script: &Script, thread: u64, n: u64) -> Option<Access>
-    ensures { result ≡ option_map paged (words.peek_or_poke script.now thread n) }
+fn peek_or_poke(search: &MarkSearch, thread: u64, n: u64) -> Option<Access>
+    ensures { result ≡ option_map paged (words.peek_or_poke search.now thread n) }
 {
-    if !is_mapped_at(script, thread, n) {
+    if !is_mapped_at(search, thread, n) {
         return None;
     }
-    access_of(command_at(script, thread, n)?)
+    access_of(command_at(search.script(), thread, n)?)
 }
 
 pub fn is_by_thread(thread: u64, who: Actor) -> bool
@@ -108,13 +109,13 @@ pub fn is_by_thread(thread: u64, who: Actor) -> bool
 }
 
 /// Returns the pages of a peek or poke of `thread`, which has answered `n` commands, if `entry` is its result.
-pub fn access_in(script: &Script, thread: u64, n: u64, entry: &Entry) -> Option<Access>
-    ensures { result ≡ option_map paged (access_in script.now thread n entry.now) }
+pub fn access_in(search: &MarkSearch, thread: u64, n: u64, entry: &Entry) -> Option<Access>
+    ensures { result ≡ option_map paged (access_in search.now thread n entry.now) }
 {
     match entry.kind {
         Kind::Result { .. } => {
             if is_by_thread(thread, entry.who) {
-                peek_or_poke(script, thread, n)
+                peek_or_poke(search, thread, n)
             } else {
                 None
             }
@@ -167,15 +168,21 @@ fn begins(mark: &Mark, behind: &[Mark], thread: u64, n: u64, b: BufId) -> bool
     }
 }
 
-/// Returns after how many commands the mapping stands through which the command that follows `n` others goes, or None where there is no mapping.
-pub fn mapped_from(script: &Script, thread: u64, n: u64, b: BufId) -> Option<u64>
-    ensures { result ≡ mapped_from script.now thread n b }
+/// Returns after how many commands the first mapping of `marks` stands through which the command that follows `n` others goes.
+fn first_through(marks: &[Mark], thread: u64, n: u64, b: BufId) -> Option<u64>
+    ensures { result ≡ option_map (λ m. m.from) (find (λ m. is_through m thread n (record { b = b; off = 0; len = 0 })) (mappings_in marks.now)) }
 {
-    let marks = script.marks.items();
     for (i, mark) in marks.iter().enumerate() {
         if begins(mark, &marks[i + 1..], thread, n, b) {
             return Some(u64::from(mark.after));
         }
     }
     None
+}
+
+/// Returns after how many commands the mapping stands through which the command that follows `n` others goes, or None where there is no mapping.
+pub fn mapped_from(search: &MarkSearch, thread: u64, n: u64, b: BufId) -> Option<u64>
+    ensures { result ≡ mapped_from search.now thread n b }
+{
+    first_through(search.part(thread, 0, n), thread, n, b)
 }

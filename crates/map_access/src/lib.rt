@@ -2,5 +2,7 @@
 #![tactic(auto)]
 
 mod access;
+mod search;
 
 pub use access::{Access, access_in, is_by_thread, mapped_from};
+pub use search::MarkSearch;

@@ -1,5 +1,6 @@
 pub mod Standing
 mod Areas
+mod Ends
 mod Step
 mod Answered
 pub mod Stands

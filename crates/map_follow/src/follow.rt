@@ -6,7 +6,8 @@ ghost use Rattle.map_follow.specs.Ends as words;
 
 use crate::found::{Found, place_of};
 use cpu_maps::CpuMaps;
-use journal_model::{Kind, MarkKind, Script};
+use journal_model::{Kind, Mark, MarkKind};
+use map_access::MarkSearch;
 use ttm_base::{Loc, Mem, Span};
 
 /// Gives the thread's mapping an entry for each page that its access found, of a buffer that stands in the memory type `mem`, with the spans `spans`
@@ -35,15 +36,23 @@ pub fn leave(maps: &mut CpuMaps, kind: &Kind)
     }
 }
 
-/// Removes the entries of those mappings that end once `thread` has answered `answered` commands.
-pub fn end_mappings(maps: &mut CpuMaps, script: &Script, thread: u32, answered: u64)
-    ensures { maps.new ≡ fold (words.with_end thread answered) maps.old script.now.marks }
+/// Removes the entries of those mappings that a line of `marks` ends once `thread` has answered `answered` commands.
+fn end_by(maps: &mut CpuMaps, marks: &[Mark], thread: u32, answered: u64)
+    ensures { maps.new ≡ fold (words.with_end thread answered) maps.old marks.now }
 {
-    for mark in script.marks.items() {
+    for mark in marks {
         if mark.thread == thread && u64::from(mark.after) == answered {
             if let MarkKind::Unmap { b } = mark.kind {
                 maps.unmap(thread, b);
             }
         }
     }
+}
+
+/// Removes the entries of those mappings that end once `thread` has answered `answered` commands.
+pub fn end_mappings(maps: &mut CpuMaps, search: &MarkSearch, thread: u32, answered: u64)
+    ensures { maps.new ≡ fold (words.with_end thread answered) maps.old search.now.marks }
+{
+    let marks = search.part(u64::from(thread), answered, answered);
+    end_by(maps, marks, thread, answered);
 }

@@ -3,8 +3,8 @@ ghost use Rattle.std.specs.Prelude.{◌≡◌};
 ghost use Rattle.map_follow.specs.Follows as follows;
 ghost use Rattle.map_follow.specs.Founds as words;
 
-use journal_model::{Entry, Kind, Script};
-use map_access::{Access, access_in, mapped_from};
+use journal_model::{Entry, Kind};
+use map_access::{Access, MarkSearch, access_in, mapped_from};
 use state_words::page_at;
 use ttm_base::{Actor, Loc, Mem, PagePlace, Span};
 
@@ -27,14 +27,14 @@ pub fn answerer(entry: &Entry) -> Option<u32>
 
 /// Returns the pages that the access of `entry` finds, if the entry is the result of a peek or poke. Its thread has answered `answered` commands
 /// before.
-pub fn found_by(script: &Script, answered: u64, entry: &Entry) -> Option<Found>
-    ensures { result ≡ words.found_by script.now answered entry.now }
+pub fn found_by(search: &MarkSearch, answered: u64, entry: &Entry) -> Option<Found>
+    ensures { result ≡ words.found_by search.now answered entry.now }
 {
     let Actor::Thread(thread) = entry.who else {
         return None;
     };
-    let pages = access_in(script, u64::from(thread), answered, entry)?;
-    mapped_from(script, u64::from(thread), answered, pages.b)?;
+    let pages = access_in(search, u64::from(thread), answered, entry)?;
+    mapped_from(search, u64::from(thread), answered, pages.b)?;
     Some(Found { thread, pages })
 }
 

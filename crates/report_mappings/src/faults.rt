@@ -13,7 +13,7 @@ ghost use Rattle.report_mappings.specs.Faults.{IsLegalIfMapped, access_in, fault
 
 use crate::seen::{Seen, leave, meet_pages, seen_at};
 use journal_model::{Entry, Kind, MarkKind, Script};
-use map_access::{Access, access_in, is_by_thread, mapped_from};
+use map_access::{Access, MarkSearch, access_in, is_by_thread, mapped_from};
 use std::alloc::Global;
 use text_line::{Line, put_numbered};
 use ttm_base::{ItemList, NoMemory};
@@ -87,23 +87,23 @@ fn put_line(line: &mut Line, thread: u64, n: u64, faults: &[u64]) -> Result<(), 
 fn put_entry(
     line: &mut Line,
     alloc: Global,
-    script: &Script,
+    search: &MarkSearch,
     thread: u64,
     n: u64,
     seen: &mut Seen,
     entry: &Entry,
 ) -> Result<(), NoMemory>
     requires { n < 18446744073709551615 }
-    ensures text { OnOk result (line.new ≡ line.old ++ faults_text script.now thread n seen.old (option_map paged (access_in script.now thread n entry.now))) }
-    ensures seen { OnOk result ((c i : ℕ) → words.seen_at seen.new c i ≡ seen_after (option_map paged (access_in script.now thread n entry.now)) n entry.now.kind c i (words.seen_at seen.old c i)) }
+    ensures text { OnOk result (line.new ≡ line.old ++ faults_text search.now thread n seen.old (option_map paged (access_in search.now thread n entry.now))) }
+    ensures seen { OnOk result ((c i : ℕ) → words.seen_at seen.new c i ≡ seen_after (option_map paged (access_in search.now thread n entry.now)) n entry.now.kind c i (words.seen_at seen.old c i)) }
 {
-    match access_in(script, thread, n, entry) {
+    match access_in(search, thread, n, entry) {
         None => {
             leave(seen, &entry.kind);
             Ok(())
         }
         Some(access) => {
-            let from = mapped_from(script, thread, n, access.b);
+            let from = mapped_from(search, thread, n, access.b);
             let faults = faults_in(alloc, seen, from, access)?;
             put_line(line, thread, n, faults.items())?;
             meet_pages(seen, alloc, access, n + 1)
@@ -123,16 +123,16 @@ fn answers(thread: u64, entry: &Entry) -> bool
 fn put_thread_faults(
     line: &mut Line,
     alloc: Global,
-    script: &Script,
+    search: &MarkSearch,
     journal: &[Entry],
     thread: u64,
 ) -> Result<(), NoMemory>
-    ensures { OnOk result (IsLegal script.now journal.now → line.new ≡ line.old ++ thread_faults script.now thread [] (made_of script.now journal.now)) }
+    ensures { OnOk result (IsLegal search.now journal.now → line.new ≡ line.old ++ thread_faults search.now thread [] (made_of search.now journal.now)) }
 {
     let mut seen = Seen::new(alloc);
     let mut answered = 0;
     for entry in journal {
-        put_entry(line, alloc, script, thread, answered, &mut seen, entry)?;
+        put_entry(line, alloc, search, thread, answered, &mut seen, entry)?;
         if answers(thread, entry) {
             answered += 1;
         }
@@ -149,8 +149,9 @@ fn put_all_faults(
 ) -> Result<(), NoMemory>
     ensures { OnOk result (IsLegal script.now journal.now → line.new ≡ line.old ++ flat_map (λ t. thread_faults script.now t [] (made_of script.now journal.now)) (thread_numbers script.now)) }
 {
+    let search = MarkSearch::new(script);
     for index in 0..script.threads.len() {
-        put_thread_faults(line, alloc, script, journal, index as u64 + 1)?;
+        put_thread_faults(line, alloc, &search, journal, index as u64 + 1)?;
     }
     Ok(())
 }
@@ -169,7 +170,8 @@ pub fn has_map(script: &Script) -> bool
 }
 
 /// Puts the report's part on mappings by the CPU into `line`, which is empty where no line maps a buffer. Of a journal that isn't legal it
-/// puts some text. It passes over the journal once for each thread; each of the thread's peeks and pokes costs a search of the marks.
+/// puts some text. It walks the marks once, and passes over the journal once for each thread; each of the thread's peeks and pokes costs a search by
+/// halves among the marks and a walk of those of the thread above it, or of all marks where these don't stand in order.
 pub fn put_maps(
     line: &mut Line,
     alloc: Global,

@@ -1,12 +1,16 @@
-use Rattle.std.proofs.Common.{◌-◌, fold, sym, ap, ◌∙◌}
+use Rattle.std.proofs.Common.{◌-◌, IsTrue, fold, sym, ap, ◌∙◌, subst}
 use Rattle.journal_model.specs.declared.script.Script.{Script}
 use Rattle.journal_model.specs.declared.state.Course.{Course}
 use Rattle.journal_model.specs.rules.Legal.{state_of}
+use Rattle.journal_model.specs.scripts.ScriptRules.{is_script}
 use Rattle.map_follow.specs.Ends.{with_end}
 use Rattle.map_follow.specs.Founds.{found_by, with_found}
 use Rattle.device_core.proofs.Behind.{after_none, after_some, fits_pages, is_there, known_reservation, some_answered}
 use Rattle.device_core.proofs.follow.follow_answer.Goals as goal
 use Rattle.device_core.proofs.follow.follow_answer.Goals.{in-Some, in_default}
+
+pub of_script-search-requires : goal.of_script-search-requires
+of_script-search-requires c = subst (λ (s : Script). IsTrue (is_script s)) (sym c.script.ensures.script) c.script.ensures.fits
 
 pub course-requires : goal.course-requires
 course-requires c = is_there c.args.rooms.now.script c.args.rooms.now.journal c.args.before.now c.args.entry.now c.journal-legal.ensures.fits c.journal-legal.ensures.legal c.requires.last c.args.thread c.requires.who
@@ -20,20 +24,20 @@ pub get-bo-requires : goal.get-bo-requires
 get-bo-requires c =
     known_reservation c.args.rooms.now.script c.args.rooms.now.journal c.args.before.now c.args.entry.now c.journal-legal.ensures.fits c.journal-legal.ensures.legal c.requires.last c.args.thread c.requires.who c.from-answered.result
     (c.from-answered.ensures ∙ ap (λ (x : Course). x.answered) c.course.ensures) c.in-Some.found
-    (ap (λ (s : Script). found_by s (c.from-answered.result - 1) c.args.entry.now) (sym c.script-script.ensures.script) ∙ sym c.found_by.ensures ∙ c.in-Some.is)
+    (ap (λ (s : Script). found_by s (c.from-answered.result - 1) c.args.entry.now) (sym (c.of_script-search.ensures ∙ c.script.ensures.script)) ∙ sym c.found_by.ensures ∙ c.in-Some.is)
     (state_of c.args.rooms.now.script c.args.rooms.now.journal).last_jobs c.bos.result.now c.bos.ensures
 
 pub fault_in-requires : goal.fault_in-requires
 fault_in-requires c =
     fits_pages c.args.rooms.now.script c.args.rooms.now.journal c.args.before.now c.args.entry.now c.journal-legal.ensures.fits c.journal-legal.ensures.legal c.requires.last c.args.thread c.requires.who c.from-answered.result
     (c.from-answered.ensures ∙ ap (λ (x : Course). x.answered) c.course.ensures) c.in-Some.found
-    (ap (λ (s : Script). found_by s (c.from-answered.result - 1) c.args.entry.now) (sym c.script-script.ensures.script) ∙ sym c.found_by.ensures ∙ c.in-Some.is)
+    (ap (λ (s : Script). found_by s (c.from-answered.result - 1) c.args.entry.now) (sym (c.of_script-search.ensures ∙ c.script.ensures.script)) ∙ sym c.found_by.ensures ∙ c.in-Some.is)
 
 pub returns : goal.returns
 returns c =
     let told = c.from-answered.ensures ∙ ap (λ (x : Course). x.answered) c.course.ensures in
-    let found_is = ap (λ (s : Script). found_by s (c.from-answered.result - 1) c.args.entry.now) (sym c.script-script.ensures.script) ∙ sym c.found_by.ensures in
-    let put = c.end_mappings.ensures ∙ ap (λ (s : Script). fold (with_end c.args.thread c.from-answered.result) c.match-found_by.maps s.marks) c.script-script.ensures.script in
+    let found_is = ap (λ (s : Script). found_by s (c.from-answered.result - 1) c.args.entry.now) (sym (c.of_script-search.ensures ∙ c.script.ensures.script)) ∙ sym c.found_by.ensures in
+    let put = c.end_mappings.ensures ∙ ap (λ (s : Script). fold (with_end c.args.thread c.from-answered.result) c.match-found_by.maps s.marks) (c.of_script-search.ensures ∙ c.script.ensures.script) in
     elim c.match-found_by.branch [
       | in-Some w ↦
           after_some c.args.rooms.now.script c.args.rooms.now.journal c.args.before.now c.args.entry.now c.journal-legal.ensures.fits c.journal-legal.ensures.legal c.requires.last c.args.thread c.requires.who c.from-answered.result told w.in-Some.found (found_is ∙ w.in-Some.is)

@@ -14,13 +14,13 @@ no_more n = omega arith
 pub loop-entry-init : goal.loop-entry-init
 loop-entry-init c = record {
   few = omega arith;
-  follows = λ legal. subst (λ (s : List (List ℕ)). Follows c.args.script.now c.args.thread [] 0 s) (sym c.new-seen.ensures) (follows_first c.args.script.now c.args.thread);
+  follows = λ legal. subst (λ (s : List (List ℕ)). Follows c.args.search.now c.args.thread [] 0 s) (sym c.new-seen.ensures) (follows_first c.args.search.now c.args.thread);
   text = λ legal. refl;
 }
 
 pub loop-entry-preserved : goal.loop-entry-preserved
 loop-entry-preserved c =
-    let script = c.args.script.now in
+    let script = c.args.search.now in
     let thread = c.args.thread in
     let journal = c.args.journal.now in
     let k = c.loop-entry.entry-index in
@@ -42,5 +42,5 @@ loop-entry-preserved c =
 
 pub returns : goal.returns
 returns c = λ legal.
-    text_done c.args.script.now c.args.thread c.args.journal.now c.loop-entry.entry-index c.loop-entry.line
-    (c.args.line.now ++ thread_faults c.args.script.now c.args.thread [] (made_of c.args.script.now c.args.journal.now)) (omega arith) (c.loop-entry.invariant.text legal)
+    text_done c.args.search.now c.args.thread c.args.journal.now c.loop-entry.entry-index c.loop-entry.line
+    (c.args.line.now ++ thread_faults c.args.search.now c.args.thread [] (made_of c.args.search.now c.args.journal.now)) (omega arith) (c.loop-entry.invariant.text legal)

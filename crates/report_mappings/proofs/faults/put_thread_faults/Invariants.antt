@@ -8,6 +8,6 @@ use Rattle.report_mappings.proofs.faults.put_thread_faults.Given as goal
 abbrev pub invariant-loop-entry : goal.invariant-loop-entry
 invariant-loop-entry l = record {
   few : l.answered ≤ l.entry-index;
-  follows : IsLegal l.script l.journal → Follows l.script l.thread (front l.script l.thread l.journal l.entry-index) l.answered l.seen;
-  text : IsLegal l.script l.journal → l.line ++ text_from l.script l.thread l.journal l.entry-index ≡ l.fn.line ++ thread_faults l.script l.thread [] (made_of l.script l.journal);
+  follows : IsLegal l.search l.journal → Follows l.search l.thread (front l.search l.thread l.journal l.entry-index) l.answered l.seen;
+  text : IsLegal l.search l.journal → l.line ++ text_from l.search l.thread l.journal l.entry-index ≡ l.fn.line ++ thread_faults l.search l.thread [] (made_of l.search l.journal);
 }

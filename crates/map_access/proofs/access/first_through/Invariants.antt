@@ -1,7 +1,7 @@
 use Rattle.std.proofs.Common.{◌≡◌, drop}
 use Rattle.std.specs.Prelude.{find}
 use Rattle.journal_model.specs.marks.Mapped.{is_through, mappings_in}
-use Rattle.map_access.proofs.access.mapped_from.Given as goal
+use Rattle.map_access.proofs.access.first_through.Given as goal
 
 -- no mapping before this mark will do
 abbrev pub invariant-loop-i : goal.invariant-loop-i
