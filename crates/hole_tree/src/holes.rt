@@ -310,6 +310,7 @@ impl Holes {
     }
 
     /// The hole of the range choice, with a counter of its own.
+    #[inline(always)]
     fn choose<L: Ledger>(&self, mode: Mode, request: Request, blank: Blank) -> Option<Span>
         requires align { 1 ≤ request.align }
         requires name { blank.name ≡ L.name }

@@ -390,6 +390,7 @@ impl<S: Side> Node<S> {
 
 /// Mends a node whose left side has grown by a level, and says whether the node has grown too. It mends one whose right
 /// side has lost a level as well: that node has lost one where this says that it hasn't grown.
+#[inline(always)]
 fn grown_left<S: Side>(node: &mut Box<Node<S>>) -> bool
     requires grown { Leans node.old.value.lean node.old.value.left.height (node.old.value.right.height + 1) }
     requires sides { HasSides S.keeps node.old.value }
@@ -411,6 +412,7 @@ fn grown_left<S: Side>(node: &mut Box<Node<S>>) -> bool
 }
 
 /// The same, where the right side has grown.
+#[inline(always)]
 fn grown_right<S: Side>(node: &mut Box<Node<S>>) -> bool
     requires grown { Leans node.old.value.lean (node.old.value.left.height + 1) node.old.value.right.height }
     requires sides { HasSides S.keeps node.old.value }
