@@ -1,2 +1,3 @@
 pub mod TurnLaws
 pub mod Earlier
+pub mod Stops

@@ -1,14 +1,13 @@
 -- A turn of the device is a turn of the simulator.
-use Rattle.std.proofs.Common.{◌≡◌, ℕ, ◌+◌, add-one, Bool, true, false, List, ◌∷◌, ◌++◌, [], Option, Some, None, Result, Ok, Err, refl, sym, subst, ◌∙◌, ap}
-use Rattle.std.specs.Prelude.{find, slice_get}
+use Rattle.std.proofs.Common.{◌≡◌, ℕ, ◌+◌, add-one, true, false, List, Option, Some, None, Result, Ok, Err, refl, sym, ◌∙◌, ap}
+use Rattle.std.specs.Prelude.{slice_get}
 use Rattle.ttm_base.specs.declared.Actor.{Actor}
 use Rattle.ttm_base.specs.declared.Need.{Need}
 use Rattle.journal_model.specs.declared.script.Script.{Script}
 use Rattle.journal_model.specs.declared.entry.Entry.{Entry}
 use Rattle.journal_model.specs.statements.Complete.{is_complete}
-use Rattle.journal_model.specs.statements.DeadEnd.{can_step}
-use Rattle.journal_model.specs.rules.Legal.{World, world_of, state_of, next_entry}
-use Rattle.journal_model.specs.statements.Scheduled.{Run, run_of, stepped, appended, scheduled, scheduled_actors, own_order, actor_of_turn}
+use Rattle.journal_model.specs.rules.Legal.{world_of, state_of, next_entry}
+use Rattle.journal_model.specs.statements.Scheduled.{run_of, stepped, appended, scheduled, scheduled_actors, actor_of_turn}
 use Rattle.laws.proofs.law_state.Turns.{run_good}
 use Rattle.device_core.specs.Kept.{Kept, entry_of, after_step, after_turn, next_actor, after_found}
 
@@ -56,15 +55,3 @@ module _ (script : Script) (n : ℕ) where
   behind_schedule (Some who) found h = stepped_is who (ap (λ o. elim o [ Some x ↦ Some x | None ↦ next_actor at ]) h ∙ found)
   behind_schedule None found h =
       ap (λ j. record { script = script; journal = j }) (sym (next_journal None (ap (λ o. elim o [ Some x ↦ Some x | None ↦ next_actor at ]) h ∙ found)))
-
--- the same of a device whose journal is that of n turns
-pub scheduled_moves : (k : Kept) (n : ℕ) (who : Actor) → k.journal ≡ scheduled k.script n → slice_get (scheduled_actors k.script) n ≡ Some who → is_complete k.script k.journal ≡ false →
-    after_turn k who ≡ record { script = k.script; journal = scheduled k.script (n + 1) }
-scheduled_moves k n who j turn h =
-    ap (λ xs. after_turn (record { script = k.script; journal = xs }) who) j
-    ∙ in_schedule k.script n who turn (subst (λ xs. is_complete k.script xs ≡ false) j h)
-
-pub first_moves : (k : Kept) (n : ℕ) → k.journal ≡ scheduled k.script n → slice_get (scheduled_actors k.script) n ≡ None → after_found k (next_actor k) ≡ record { script = k.script; journal = scheduled k.script (n + 1) }
-first_moves k n j turn =
-    ap (λ xs. after_found (record { script = k.script; journal = xs }) (next_actor (record { script = k.script; journal = xs }))) j
-    ∙ behind_schedule k.script n (next_actor (at k.script n)) refl turn

@@ -1,4 +1,4 @@
-use Rattle.std.proofs.Common.{◌≡◌, min, take, length, sum_by, flat_map}
+use Rattle.std.proofs.Common.{◌≡◌, min, take, length, sum_by}
 use Rattle.ttm_base.specs.Cutting.{pieces_of}
 use Rattle.sim_drive.proofs.limit.packets_of_command.Given as goal
 

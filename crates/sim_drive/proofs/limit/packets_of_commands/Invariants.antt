@@ -1,4 +1,4 @@
-use Rattle.std.proofs.Common.{◌≡◌, min, take, length, sum_by, flat_map}
+use Rattle.std.proofs.Common.{◌≡◌, min, take, sum_by}
 use Rattle.journal_model.specs.statements.Scheduled.{packets_in}
 use Rattle.sim_drive.proofs.limit.packets_of_commands.Given as goal
 
