@@ -7,7 +7,7 @@ ghost use Rattle.room_state.specs.room_turns.Turns.{after_step, entry_of, state_
 
 use evict_core::{catch, dry, loose, skip};
 use ghost_destroy::{hold, is_free_due};
-use journal_model::{Stage, Task};
+use journal_model::{Command, Stage, Task};
 use move_pipeline::{carry, take_target, untake};
 use room_state::room_turns::{Rooms, Step};
 use std::alloc::Global;
@@ -78,12 +78,12 @@ fn work(alloc: Global, rooms: &mut Rooms, thread: u32) -> Result<Step, NoMemory>
     ensures made { OnOk result (rooms.new ≡ after_step rooms.old (entry_of rooms.old (actor.Thread thread))) }
     ensures err { OnErr result (rooms.new ≡ rooms.old) }
 {
-    if is_free_due(rooms, thread) {
-        hold(rooms, thread)
-    } else if is_swap_out_due(rooms, thread) {
-        swap_out_page(rooms, thread)
-    } else {
-        act(alloc, rooms, thread)
+    match rooms.command(thread) {
+        Some(Command::Free { .. }) if is_free_due(rooms, thread) => hold(rooms, thread),
+        Some(Command::SwapOut { .. }) if is_swap_out_due(rooms, thread) => {
+            swap_out_page(rooms, thread)
+        }
+        _ => act(alloc, rooms, thread),
     }
 }
 
