@@ -1,5 +1,5 @@
 use Rattle.std.specs.Prelude.{◌==◌}
-use Rattle.std.proofs.Common.{◌≡◌, ◌∙◌, ◌<◌, ℕ, List, [], true, false, length, get_or, map, map-id, arith}
+use Rattle.std.proofs.Common.{◌≡◌, ◌∙◌, ◌<◌, ℕ, List, [], true, false, length, get_or, map-id, arith}
 use Rattle.std.proofs.lemmas.Grind.{common_steps}
 use Rattle.journal_model.specs.scripts.Cut.{cut_at}
 use Rattle.script_words.proofs.Cuts.{behind, behind-nil, group_hit, group_miss}
