@@ -1,37 +1,23 @@
 use Rattle.std.specs.Prelude.{◌==◌}
-use Rattle.std.proofs.Common.{◌≡◌, ◌∙◌, ◌<◌, ℕ, List, [], true, false, length, get_or, map-id, arith}
+use Rattle.std.proofs.Common.{◌≡◌, true, false, ◌<◌, length, get_or, arith}
 use Rattle.std.proofs.lemmas.Grind.{common_steps}
-use Rattle.journal_model.specs.scripts.Cut.{cut_at}
-use Rattle.script_words.proofs.Cuts.{behind, behind-nil, group_hit, group_miss}
+use Rattle.script_words.proofs.Cuts.{behind-nil, cut_step_hit, cut_step_miss}
 use Rattle.script_words.proofs.cut.cut.Goals as goal
-use Rattle.script_words.proofs.cut.cut.Goals.{then-text-i+in_ok-from_slice+in_ok-push, else-text-i}
+use Rattle.script_words.proofs.cut.cut.Goals.{then-b-separator+in_ok-push, else-b-separator+in_ok-push-2}
 
-pub loop-i-init : goal.loop-i-init
-loop-i-init c =
-    record {
-      order = omega arith;
-      within = omega arith;
-      so_far = rw c.new-words.ensures (map-id (behind [] (cut_at c.args.separator c.args.text.now)) ∙ behind-nil (λ b. b == c.args.separator) c.args.text.now);
-    }
+pub loop-b-init : goal.loop-b-init
+loop-b-init c = rw (c.new-words.ensures, c.new-word.ensures) (behind-nil (λ b. b == c.args.separator) c.args.text.now)
 
-pub loop-i-preserved : goal.loop-i-preserved
-loop-i-preserved c =
-    let lt : c.loop-i.i < length c.args.text.now = omega arith in
-    elim c.if-text-i.branch [
-      | then-text-i+in_ok-from_slice+in_ok-push w ↦
-          let hit : (get_or c.args.text.now c.loop-i.i 0 == c.args.separator) ≡ true = grind (arith, common_steps, lt, w.if-text-i.true) in
-          let step = group_hit (λ (part : List ℕ). part) (λ b. b == c.args.separator) 0 c.loop-i.start c.loop-i.i c.args.text.now c.loop-i.words _ lt hit c.loop-i.invariant.so_far in
-          record {
-            order = omega (arith, w.start-is);
-            within = omega arith;
-            so_far = rw (w.words-is, w.start-is, w.in_ok-push.ensures.ok, w.in_ok-from_slice.ensures) step;
-          }
-      | else-text-i w ↦
-          let miss : (get_or c.args.text.now c.loop-i.i 0 == c.args.separator) ≡ false = grind (arith, common_steps, lt, w.if-text-i.false) in
-          let step = group_miss (λ (part : List ℕ). part) (λ b. b == c.args.separator) 0 c.loop-i.start c.loop-i.i c.args.text.now c.loop-i.words _ c.loop-i.invariant.order lt miss c.loop-i.invariant.so_far in
-          record {
-            order = omega (arith, w.start-is, c.loop-i.invariant.order);
-            within = omega arith;
-            so_far = rw (w.words-is, w.start-is) step;
-          }
+pub loop-b-preserved : goal.loop-b-preserved
+loop-b-preserved c =
+    let lt : c.loop-b.b-index < length c.args.text.now = omega arith in
+    elim c.if-b-separator.branch [
+      | then-b-separator+in_ok-push w ↦
+          let hit : (get_or c.args.text.now c.loop-b.b-index 0 == c.args.separator) ≡ true = grind (arith, common_steps, w.if-b-separator.true) in
+          let step = cut_step_hit c.args.separator c.loop-b.b-index c.args.text.now c.loop-b.words c.loop-b.word _ lt hit c.loop-b.invariant in
+          rw (w.words-is, w.word-is, w.in_ok-push.ensures.ok, w.new-word-then-b-separator.ensures) step
+      | else-b-separator+in_ok-push-2 w ↦
+          let miss : (get_or c.args.text.now c.loop-b.b-index 0 == c.args.separator) ≡ false = grind (arith, common_steps, w.if-b-separator.false) in
+          let step = cut_step_miss c.args.separator c.loop-b.b-index c.args.text.now c.loop-b.words c.loop-b.word _ lt miss c.loop-b.invariant in
+          rw (w.words-is, w.word-is, w.in_ok-push-2.ensures.ok) step
     ]
