@@ -19,18 +19,14 @@ const MOST_LEN: u32 = 16_777_216;
 pub fn owned(alloc: Global, text: &[u8]) -> Result<Bytes, NoMemory>
     ensures { IfOk result (λ list. list ≡ text.now) }
 {
-    let mut list = Bytes::new(alloc);
-    for &b in text {
-        list.push(b)?;
-    }
-    Ok(list)
+    Bytes::from_slice(alloc, text)
 }
 
 /// Returns whether `word` is `text`.
 pub fn is(word: &[u8], text: &[u8]) -> bool
     ensures { result ≡ bytes_eq word.now text.now }
 {
-    word == text
+    word.len() == text.len() && word == text
 }
 
 pub fn is_lone_semicolon(word: &Bytes) -> bool
