@@ -54,6 +54,7 @@ impl Line {
         self.bytes
     }
 
+    #[inline(always)]
     pub fn put(&mut self, text: &[u8]) -> Result<(), NoMemory>
         ensures { OnOk result (self.new ≡ self.old ++ text.now) }
     {
@@ -61,6 +62,7 @@ impl Line {
         Ok(())
     }
 
+    #[inline(always)]
     pub fn put_byte(&mut self, byte: u8) -> Result<(), NoMemory>
         ensures { OnOk result (self.new ≡ self.old ++ byte ∷ []) }
     {
@@ -68,7 +70,21 @@ impl Line {
         Ok(())
     }
 
+    /// Adds a number in decimal.
+    #[inline(always)]
+    #[tactic(auto, using(std::proofs::lemmas::Fmt::decimal_digit))]
     pub fn put_number(&mut self, number: u64) -> Result<(), NoMemory>
+        ensures { OnOk result (self.new ≡ self.old ++ decimal number) }
+    {
+        if number < 10 {
+            self.put_byte(b'0' + number as u8)
+        } else {
+            self.put_digits(number)
+        }
+    }
+
+    /// Adds a number in decimal, of any length.
+    fn put_digits(&mut self, number: u64) -> Result<(), NoMemory>
         ensures { OnOk result (self.new ≡ self.old ++ decimal number) }
     {
         let mut digits = Buffer::new();
@@ -76,6 +92,7 @@ impl Line {
     }
 
     /// Adds a space and a word.
+    #[inline(always)]
     pub fn word(&mut self, word: &[u8]) -> Result<(), NoMemory>
         ensures { OnOk result (self.new ≡ self.old ++ 32 ∷ word.now) }
     {
@@ -84,6 +101,7 @@ impl Line {
     }
 
     /// Adds a space and a number in decimal.
+    #[inline(always)]
     pub fn number(&mut self, number: u64) -> Result<(), NoMemory>
         ensures { OnOk result (self.new ≡ self.old ++ 32 ∷ decimal number) }
     {
@@ -92,6 +110,7 @@ impl Line {
     }
 
     /// Adds the end of a line.
+    #[inline(always)]
     pub fn end_line(&mut self) -> Result<(), NoMemory>
         ensures { OnOk result (self.new ≡ self.old ++ 10 ∷ []) }
     {
