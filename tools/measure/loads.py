@@ -46,21 +46,24 @@ def split(commands, count):
 
 
 class Script:
-    def __init__(self, vram="range 0", tt=0, frames=64, swap=0, engines=1):
+    def __init__(self, vram="range 0", tt=0, frames=64, swap=0, engines=1, version=1):
+        self.version = version
         self.sizes = [f"vram {vram}", f"tt {tt}", f"frames {frames}", f"swap {swap}", f"engines {engines}"]
         self.buffers = []
         self.first = []  # commands that prepare
         self.threads = []  # those of each thread that works
         self.schedule = []
         self.is_start = False  # a load that is about the program's start
+        self.is_refused = False  # one whose script isn't read to its end: of it the bytes of the script are counted
 
     def declare(self, names, pages, places, group="-"):
+        asked = f"want {places} busy {places}" if self.version == 1 else f"place {places}"
         for name in names:
-            self.buffers.append(f"buffer {name} {pages} prio 1 group {group} align 1 want {places} busy {places}")
+            self.buffers.append(f"buffer {name} {pages} prio 1 group {group} align 1 {asked}")
         return names
 
     def print(self, is_bare):
-        print(*["ttm 1", *self.sizes, *self.buffers], sep="\n")
+        print(*[f"ttm {self.version}", *self.sizes, *self.buffers], sep="\n")
         first = split(self.first, -(-len(self.first) // MOST_COMMANDS)) if self.first else []
         for commands in [*first, *([] if is_bare and commands else commands for commands in self.threads)]:
             print("thread", *commands, sep="\n")
@@ -319,6 +322,17 @@ def mixed(size):
                 )[draw(8)]
             )
         script.threads.append(commands)
+    return script
+
+
+@load(400)
+def space_jobs(size):
+    """a script that is refused at a job of SIZE operations, each over SIZE pages that are mapped one by one"""
+    script = Script(version=2)
+    script.declare(["a"], 1, "sys")
+    job = " ; ".join([f"fill 0 {4096 * size} 00"] * size)
+    script.threads = [[*(f"vmap {page} 1 a 0" for page in range(size)), f"vsubmit 1 {job}"]]
+    script.is_refused = True
     return script
 
 

@@ -6,8 +6,9 @@ usage: tools/measure/measure_loads.py PROGRAM [--seconds N] [--check] [NAME ...]
 PROGRAM is crates/ttm/out/ttm, which `./ttm --build` proves and builds, or what tools/build/build_unproved.sh writes. For each load and size stand
 the entries of its work, the processor seconds that they take, entries a second, instructions an entry (counted by valgrind), and
 the most memory that the run took. What only prepares a load (`--bare`) is subtracted, the start of the program too, but for
-`stores`, which is about the start. At the second size stands how many times an entry takes the instructions that it takes at the
-first. Runs of more than N seconds (2) aren't counted: then seconds stand for instructions there, marked by ~.
+`stores`, which is about the start. Of a load whose script is refused all is counted, by the bytes of the script in place of entries.
+At the second size stands how many times an entry takes the instructions that it takes at the first. Runs of more than N seconds (2)
+aren't counted: then seconds stand for instructions there, marked by ~.
 
 With --check stands what `ttm check` of the report takes beside what `sim` takes for it, both with what prepares the load, and the most
 memory of each. Measure it with a proved program, or one that was built with --no-checks.
@@ -27,7 +28,10 @@ CHECK_ROW = "{:14}{:>7}{:>9}{:>10}{:>10}{:>8}{:>8}{:>8}"
 ROW = "{:14}{:>7}{:>9}{:>10}{:>11}{:>14}{:>8}{:>8}"
 
 
-def run(words, script, word="sim"):
+REFUSED = 3  # how the program ends at bytes that are no script
+
+
+def run(words, script, word="sim", wanted=0):
     """Runs a program on a script: its output, processor seconds and most memory in MiB."""
     with open(script) as given, tempfile.TemporaryFile() as taken:
         child = subprocess.Popen([*words, word], stdin=given, stdout=taken, stderr=subprocess.STDOUT)
@@ -35,7 +39,7 @@ def run(words, script, word="sim"):
         child.returncode = os.waitstatus_to_exitcode(status)
         taken.seek(0)
         said = taken.read().decode()
-    if child.returncode:
+    if child.returncode != wanted:
         raise SystemExit(f"{' '.join(words)} ended with {child.returncode}: {said[-200:]}")
     return said, used.ru_utime + used.ru_stime, used.ru_maxrss / 1024
 
@@ -45,11 +49,12 @@ def measure(program, load, is_bare, folder, most):
     script = os.path.join(folder, "script")
     with open(script, "w") as it, contextlib.redirect_stdout(it):
         load.print(is_bare)
-    said, seconds, memory = run([program], script)
-    entries = int(re.search(r"^journal (\d+)$", said, re.M)[1])
+    wanted = REFUSED if load.is_refused else 0
+    said, seconds, memory = run([program], script, wanted=wanted)
+    entries = os.path.getsize(script) if load.is_refused else int(re.search(r"^journal (\d+)$", said, re.M)[1])
     if seconds < 0.3:
-        seconds = min(seconds, *(run([program], script)[1] for _again in range(4)))
-    counted = run([*COUNT, program], script)[0] if seconds <= most else ""
+        seconds = min(seconds, *(run([program], script, wanted=wanted)[1] for _again in range(4)))
+    counted = run([*COUNT, program], script, wanted=wanted)[0] if seconds <= most else ""
     found = re.search(r"I +refs: +([\d,]+)", counted)
     return entries, seconds, int(found[1].replace(",", "")) if found else None, memory
 
@@ -57,7 +62,7 @@ def measure(program, load, is_bare, folder, most):
 def work(program, load, folder, most):
     """The same of what a load does behind its preparation."""
     entries, seconds, count, memory = measure(program, load, False, folder, most)
-    if not load.is_start:
+    if not (load.is_start or load.is_refused):
         bare_entries, bare_seconds, bare_count, _memory = measure(program, load, True, folder, most)
         entries, seconds = entries - bare_entries, max(seconds - bare_seconds, 1e-6)
         count = count - bare_count if count and bare_count else None
@@ -80,6 +85,8 @@ def measure_checks(program, names):
     print(CHECK_ROW.format("load", "size", "entries", "sim", "check", "times", "MiB", "MiB"))
     for name in names:
         function, least = loads.LOADS[name]
+        if function(least).is_refused:
+            continue
         for size in (least, 10 * least):
             with tempfile.TemporaryDirectory() as folder:
                 entries, (sim, sim_memory), (check, check_memory) = compare(program, function(size), folder)

@@ -3,6 +3,7 @@ pub mod Buffers
 pub mod Changing
 pub mod Cutting
 pub mod Kept
+pub mod Mapped
 pub mod Meant
 pub mod Meeting
 pub mod Small

@@ -90,7 +90,7 @@ parts_are_mapped rs addr len parts h e = λ k w.
     subst (λ x. IsSome (regions_space rs (x / 4096))) y (all.mapped k w)
 
 -- an address that stands nowhere is of a page that isn't mapped
-no_spot : (rs : List Region) (addr : ℕ) → spot_at rs addr ≡ None → regions_space rs (addr / 4096) ≡ None
+pub no_spot : (rs : List Region) (addr : ℕ) → spot_at rs addr ≡ None → regions_space rs (addr / 4096) ≡ None
 no_spot rs addr e = elim (cases_option (find (λ r. has_page (addr / 4096) r.span) rs)) [
   | inl a ↦ ap (option_map (λ r. (r.b, r.off + (addr / 4096 - r.span.start)))) a
   | inr (r, a) ↦ let some : spot_at rs addr ≡ Some (spot_in addr r) = ap (option_map (spot_in addr)) a in absurd (cc)

@@ -1,5 +1,6 @@
 -- What a space says of a range of addresses, byte by byte.
-use Rattle.std.specs.Prelude.{ℕ, ◌+◌, ◌<◌, ◌/◌, ◌≡◌, List, None, IsSome, flat_map, map}
+use Rattle.std.specs.Prelude.{ℕ, ◌+◌, ◌<◌, ◌≤◌, ◌/◌, ◌≡◌, List, None, IsSome, flat_map, map}
+use Rattle.ttm_base.specs.declared.Span.{Span}
 use Rattle.ttm_base.specs.ListWords.{count_from}
 use Rattle.journal_model.specs.rules.PlainMemory.{Memory, memory_range}
 use Rattle.journal_model.specs.marks.Spaces.{Space}
@@ -16,6 +17,10 @@ range_shown space memory addr len = map (λ i. byte_there space (addr + i) memor
 -- each page of the range is mapped
 abbrev pub IsMappedRange : Space → ℕ → ℕ → Type 0
 IsMappedRange space addr len = (i : ℕ) → i < len → IsSome (space ((addr + i) / 4096))
+
+-- each page of the span is mapped
+abbrev pub IsMappedSpan : Space → Span → Type 0
+IsMappedSpan space s = (page : ℕ) → s.start ≤ page → page < s.end → IsSome (space page)
 
 -- a page of the range isn't mapped
 pub record LacksPage (space : Space) (addr len : ℕ) : Type 0 where

@@ -1,18 +1,21 @@
 //! The job by name: operations with addresses, cut at the borders of mappings into operations on buffers.
-ghost use Rattle.std.specs.Prelude.{◌≡◌, ◌+◌, ◌-◌, ◌≤◌, ◌++◌, true, false, Some, None, IfOk, length, min, option_map, if◌then◌else◌};
+ghost use Rattle.std.specs.Prelude.{◌≡◌, ◌+◌, ◌-◌, ◌≤◌, ◌++◌, true, false, List, Some, None, All, IfOk, IsSome, IsTrue, length, min, option_map, if◌then◌else◌};
 ghost use Rattle.std.specs.List.{list_all};
 ghost use Rattle.journal_model.specs.marks.ByName as name;
 ghost use Rattle.journal_model.specs.marks.ByName.{job_by_name, op_in_names};
+ghost use Rattle.journal_model.specs.marks.Spaces.{Region, regions_space};
 ghost use Rattle.gpu_spaces.specs.Inside.{is_inside};
 ghost use Rattle.gpu_spaces.specs.Kept.{regions_in};
+ghost use Rattle.gpu_spaces.specs.Meaning.{IsMappedSpan};
 ghost use Rattle.gpu_spaces.specs.Regions.{IsKept};
 ghost use Rattle.gpu_spaces.specs.Spots.{spot_of};
 
 use crate::mappings::Mappings;
+use crate::runs::{Runs, is_in_run, runs_if};
 use crate::spot::{Spot, spot_at};
 use journal_model::{Ops, VOp};
 use std::alloc::Global;
-use ttm_base::{NoMemory, Op};
+use ttm_base::{NoMemory, Op, Span};
 
 /// Returns the length of an operation in bytes.
 fn vop_len(op: VOp) -> u32
@@ -122,13 +125,27 @@ pub(crate) fn job_of(
     Ok(Some(job))
 }
 
+/// Returns whether each page of an operation is in a run of mapped pages that has the others of its range.
+fn is_in_runs(runs: &[Span], op: VOp) -> bool
+    requires { is_inside op ≡ true }
+    ensures { (rs : List Region) → All (IsMappedSpan (regions_space rs)) runs.now → IsTrue result → IsSome (op_in_names rs op) }
+{
+    let len = vop_len(op);
+    is_in_run(runs, first_address(op), len) && is_in_run(runs, second_address(op), len)
+}
+
 /// Adds the number of operations by name of an operation to `before`, up to `most`. Returns None where a page isn't mapped.
-fn count_ops(mappings: &Mappings, op: VOp, before: u32, most: u32) -> Option<u32>
+/// Once there are `most`, an operation in the runs isn't cut.
+fn count_ops(mappings: &Mappings, runs: &[Span], op: VOp, before: u32, most: u32) -> Option<u32>
     requires kept { IsKept (regions_in mappings.now) }
+    requires runs { All (IsMappedSpan (regions_space (regions_in mappings.now))) runs.now }
     requires inside { is_inside op ≡ true }
     requires few { before ≤ most }
     ensures { result ≡ option_map (λ ops. min (before + length ops) most) (op_in_names (regions_in mappings.now) op) }
 {
+    if before == most && is_in_runs(runs, op) {
+        return Some(most);
+    }
     let len = vop_len(op);
     let mut at = 0;
     let mut count = before;
@@ -146,15 +163,18 @@ fn count_ops(mappings: &Mappings, op: VOp, before: u32, most: u32) -> Option<u32
     Some(count)
 }
 
-/// Counts the operations of the job by name, up to `most`. Returns None where a page isn't mapped.
-pub(crate) fn job_len(mappings: &Mappings, ops: &[VOp], most: u32) -> Option<u32>
+/// Counts the operations of the job by name, up to `most`. Returns None where a page isn't mapped. Finds the runs of mapped
+/// pages once there are `most`, so that no more operations have to be cut; where memory is refused they are cut.
+pub(crate) fn job_len(alloc: Global, mappings: &Mappings, ops: &[VOp], most: u32) -> Option<u32>
     requires kept { IsKept (regions_in mappings.now) }
     requires inside { list_all is_inside ops.now ≡ true }
     ensures { result ≡ option_map (λ job. min (length job) most) (job_by_name (regions_in mappings.now) ops.now) }
 {
+    let mut runs = Runs::new(alloc);
     let mut count = 0;
     for op in ops {
-        let Some(more) = count_ops(mappings, *op, count, most) else {
+        runs = runs_if(alloc, mappings, runs, count == most);
+        let Some(more) = count_ops(mappings, runs.items(), *op, count, most) else {
             return None;
         };
         count = more;

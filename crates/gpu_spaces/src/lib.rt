@@ -7,6 +7,7 @@ mod change;
 mod job;
 mod mappings;
 mod pieces;
+mod runs;
 mod space;
 mod spot;
 mod steps;

@@ -26,12 +26,16 @@ use ttm_base::{BufId, NoMemory, Span};
 /// The address space of a thread: its mappings, in rising order, of which no two have a page in common.
 pub struct Space {
     mappings: Mappings,
+    alloc: Global,
 }
 
 /// Names each part, so that no crate above proves how they are dropped.
 impl Drop for Space {
     fn drop(self) {
-        let Self { mappings: _ } = self;
+        let Self {
+            mappings: _,
+            alloc: _,
+        } = self;
     }
 }
 
@@ -55,6 +59,7 @@ impl Space {
     {
         Space {
             mappings: BTreeMap::new(alloc),
+            alloc,
         }
     }
 
@@ -146,7 +151,7 @@ impl Space {
         requires { list_all is_inside ops.now ≡ true }
         ensures { result ≡ option_map (λ job. min (length job) most) (job_by_name self.now ops.now) }
     {
-        job_len(&self.mappings, ops, most)
+        job_len(self.alloc, &self.mappings, ops, most)
     }
 
     /// Returns whether no buffer is in both ranges of `op`, as far as their pages are mapped.

@@ -116,13 +116,17 @@ line_inside s l engine ws e n r =
     let ranges : has_range_fault s (line.Vsubmit engine ws) ≡ false = ap (has_range_fault s) (sym e) ∙ r in
     ops_inside ws (either (is_broken_engine engine) (list_any lacks_number_in_vop ws) numbers).1 ranges
 
--- what is found of the operations is told of their words
-pub twice_told : (rs : List Region) (ws : List VOpWord) (found : Bool) → found ≡ list_any (λ v. not (has_apart_ranges rs v)) (map vop_in ws) → found ≡ true → true ≡ breaks_job_at rs ws
-twice_told rs ws found e t =
-    let all : list_any (λ w. not (has_apart_ranges rs (vop_in w))) ws ≡ true = sym (twice_in_words rs ws) ∙ sym e ∙ t in
-    sym (ap (λ b. b || is_big_named_job (job_by_name rs (map vop_in ws))) all)
+or_true : (a b : Bool) → b ≡ true → true ≡ (a || b)
+or_true true b h = refl
+or_true false b h = sym h
 
-pub big_told : (rs : List Region) (ws : List VOpWord) (found : Bool) → found ≡ list_any (λ v. not (has_apart_ranges rs v)) (map vop_in ws) → found ≡ false → is_big_named_job (job_by_name rs (map vop_in ws)) ≡ breaks_job_at rs ws
-big_told rs ws found e f =
-    let none : list_any (λ w. not (has_apart_ranges rs (vop_in w))) ws ≡ false = sym (twice_in_words rs ws) ∙ sym e ∙ f in
-    sym (ap (λ b. b || is_big_named_job (job_by_name rs (map vop_in ws))) none)
+or_false : (a b : Bool) → b ≡ false → a ≡ (a || b)
+or_false true b h = refl
+or_false false b h = sym h
+
+-- what is found of the operations is told of their words
+pub big_told : (rs : List Region) (ws : List VOpWord) (found : Bool) → found ≡ is_big_named_job (job_by_name rs (map vop_in ws)) → found ≡ true → true ≡ breaks_job_at rs ws
+big_told rs ws found e t = or_true (list_any (λ w. not (has_apart_ranges rs (vop_in w))) ws) (is_big_named_job (job_by_name rs (map vop_in ws))) (sym e ∙ t)
+
+pub twice_told : (rs : List Region) (ws : List VOpWord) (found : Bool) → found ≡ is_big_named_job (job_by_name rs (map vop_in ws)) → found ≡ false → list_any (λ v. not (has_apart_ranges rs v)) (map vop_in ws) ≡ breaks_job_at rs ws
+twice_told rs ws found e f = twice_in_words rs ws ∙ or_false (list_any (λ w. not (has_apart_ranges rs (vop_in w))) ws) (is_big_named_job (job_by_name rs (map vop_in ws))) (sym e ∙ f)

@@ -22,6 +22,9 @@ use ttm_base::{BufId, ItemList, NoMemory, Op};
 /// The number of bytes of an address space.
 const SPACE_BYTES: u64 = 4_294_967_296;
 
+/// One operation more than a job may have.
+const TOO_MANY_OPS: u32 = 65;
+
 fn lacks_op_number(op: &VOpWord) -> bool
     ensures { result ≡ lacks_number_in_vop op.now }
 {
@@ -206,7 +209,7 @@ fn is_big(alloc: Global, thread_mappings: &ThreadMappings, ops: &[VOp]) -> Resul
     requires { list_all is_inside ops.now ≡ true }
     ensures { IfOk result (λ big. big ≡ is_big_named_job (job_by_name thread_mappings.now.regions ops.now)) }
 {
-    match thread_mappings.space().job_len(ops, 65) {
+    match thread_mappings.space().job_len(ops, TOO_MANY_OPS) {
         None => Ok(false),
         Some(count) => {
             if 64 < count {
@@ -217,7 +220,8 @@ fn is_big(alloc: Global, thread_mappings: &ThreadMappings, ops: &[VOp]) -> Resul
     }
 }
 
-/// Returns whether a buffer stands in both ranges of a copy or xor, or there are too many buffers or operations by name.
+/// Returns whether a buffer stands in both ranges of a copy or xor, or there are too many buffers or operations by name. Asks
+/// that first which takes fewer steps.
 pub(crate) fn breaks_addressed_job(
     alloc: Global,
     thread_mappings: &ThreadMappings,
@@ -228,10 +232,10 @@ pub(crate) fn breaks_addressed_job(
     ensures { IfOk result (λ broken. broken ≡ breaks_job_at thread_mappings.now.regions words.now) }
 {
     let ops = vops_of(alloc, words)?;
-    if some_buffer_is_twice(alloc, thread_mappings, ops.items())? {
+    if is_big(alloc, thread_mappings, ops.items())? {
         return Ok(true);
     }
-    is_big(alloc, thread_mappings, ops.items())
+    some_buffer_is_twice(alloc, thread_mappings, ops.items())
 }
 
 fn len_of(op: &VOpWord) -> u32
@@ -275,7 +279,12 @@ pub(crate) fn breaks_page(
     match line {
         Line::Vsubmit { ops, .. } => {
             let ops = vops_of(alloc, ops.items())?;
-            Ok(thread_mappings.space().job_len(ops.items(), 1).is_none())
+            Ok(
+                thread_mappings
+                    .space()
+                    .job_len(ops.items(), TOO_MANY_OPS)
+                    .is_none(),
+            )
         }
         _ => Ok(false),
     }
