@@ -1,6 +1,6 @@
 -- Runs of mapped pages, and operations in them.
-use Rattle.std.proofs.Common.{◌≡◌, ℕ, zero, suc, ◌+◌, ◌-◌, ◌*◌, ◌/◌, ◌<◌, ◌≤◌, min, true, false, List, [], ◌∷◌, Option, Some, None, refl, ap, sym, ◌∙◌, arith, inl, inr, length, subst}
-use Rattle.std.specs.Prelude.{map, find, nat_lt, option_map, IsSome}
+use Rattle.std.proofs.Common.{◌≡◌, ℕ, zero, suc, ◌+◌, ◌-◌, ◌*◌, ◌/◌, ◌<◌, ◌≤◌, min, true, List, [], ◌∷◌, Option, Some, None, refl, ap, arith, inl, inr, length, subst}
+use Rattle.std.specs.Prelude.{map, nat_lt, option_map, IsSome}
 use Rattle.std.specs.List.{AllByRecursion}
 use Rattle.std.proofs.lemmas.Bool.{cases_Bool, ltb-true, ltb-false}
 use Rattle.std.proofs.lemmas.Bool.Decides.{nat_tests}
@@ -9,7 +9,7 @@ use Rattle.ttm_base.specs.declared.Span.{Span}
 use Rattle.ttm_base.specs.Holes.{has_page}
 use Rattle.journal_model.specs.declared.space.VOp.{VOp}
 use Rattle.journal_model.specs.marks.Spaces.{Region, Space, regions_space}
-use Rattle.journal_model.specs.marks.ByName.{Spot, spot_at, first_address, second_address, vop_len, op_by_name, ops_from, op_in_names}
+use Rattle.journal_model.specs.marks.ByName.{spot_at, first_address, second_address, vop_len, op_by_name, ops_from, op_in_names}
 use Rattle.law_legal.proofs.law_spaces.Found.{cases_option, spot_has_room}
 use Rattle.gpu_spaces.specs.declared.mappings.Rest.{Rest}
 use Rattle.gpu_spaces.specs.Kept.{region_at}

@@ -54,7 +54,6 @@ impl Line {
         self.bytes
     }
 
-    #[inline(always)]
     pub fn put(&mut self, text: &[u8]) -> Result<(), NoMemory>
         ensures { OnOk result (self.new ≡ self.old ++ text.now) }
     {
@@ -62,7 +61,6 @@ impl Line {
         Ok(())
     }
 
-    #[inline(always)]
     pub fn put_byte(&mut self, byte: u8) -> Result<(), NoMemory>
         ensures { OnOk result (self.new ≡ self.old ++ byte ∷ []) }
     {
@@ -71,7 +69,6 @@ impl Line {
     }
 
     /// Adds a number in decimal.
-    #[inline(always)]
     #[tactic(auto, using(std::proofs::lemmas::Fmt::decimal_digit))]
     pub fn put_number(&mut self, number: u64) -> Result<(), NoMemory>
         ensures { OnOk result (self.new ≡ self.old ++ decimal number) }
@@ -92,7 +89,6 @@ impl Line {
     }
 
     /// Adds a space and a word.
-    #[inline(always)]
     pub fn word(&mut self, word: &[u8]) -> Result<(), NoMemory>
         ensures { OnOk result (self.new ≡ self.old ++ 32 ∷ word.now) }
     {
@@ -101,7 +97,6 @@ impl Line {
     }
 
     /// Adds a space and a number in decimal.
-    #[inline(always)]
     pub fn number(&mut self, number: u64) -> Result<(), NoMemory>
         ensures { OnOk result (self.new ≡ self.old ++ 32 ∷ decimal number) }
     {
@@ -110,7 +105,6 @@ impl Line {
     }
 
     /// Adds the end of a line.
-    #[inline(always)]
     pub fn end_line(&mut self) -> Result<(), NoMemory>
         ensures { OnOk result (self.new ≡ self.old ++ 10 ∷ []) }
     {

@@ -36,7 +36,6 @@ pub fn put_actor(line: &mut Line, who: Actor) -> Result<(), NoMemory>
 }
 
 /// Adds a letter and a number in decimal.
-#[inline(always)]
 pub fn put_numbered(line: &mut Line, letter: u8, number: u64) -> Result<(), NoMemory>
     ensures { OnOk result (line.new ≡ line.old ++ letter ∷ decimal number) }
 {

@@ -1,4 +1,4 @@
-use Rattle.std.proofs.Common.{◌≡◌, ◌∷◌, ◌∙◌, All, ap, sym, subst, arith}
+use Rattle.std.proofs.Common.{◌∷◌, ◌∙◌, All, ap, sym, subst, arith}
 use Rattle.std.specs.List.{AllByRecursion}
 use Rattle.std.proofs.lemmas.List.Elements.{All-nil, All-push}
 use Rattle.journal_model.specs.marks.Spaces.{Region, regions_space}
