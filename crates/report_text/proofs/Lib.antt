@@ -3,3 +3,4 @@ pub mod WrittenLines
 pub mod Kept
 pub mod Parts
 pub mod LineLaws
+pub mod PlainLaws

@@ -114,7 +114,7 @@ line_len_within (b ∷ t) =
     subst (λ m. (if b == 10 then 1 else line_len t + 1) ≤ m) s h
 
 -- a line with one byte more in front, which is no line feed
-longer_line : (b : ℕ) (t : Text) → (b == 10) ≡ false → is_line t ≡ true → is_line (b ∷ t) ≡ true
+pub longer_line : (b : ℕ) (t : Text) → (b == 10) ≡ false → is_line t ≡ true → is_line (b ∷ t) ≡ true
 longer_line b [] e h = cc
 longer_line b (c ∷ t) e h = ap (λ p. not p && is_line (c ∷ t)) e ∙ h
 

@@ -1,4 +1,4 @@
-ghost use Rattle.std.specs.Prelude.{◌≡◌, ◌+◌, ◌++◌, ◌∷◌, [], OnOk, codes, decimal, drop, length, map, slice_get, unwrap_or};
+ghost use Rattle.std.specs.Prelude.{◌≡◌, ◌+◌, ◌++◌, ◌∷◌, [], OnOk, codes, decimal, length, map, unwrap_or};
 ghost use Rattle.journal_model.specs.reports.EntryText.{cause_row_word, cause_word, deny_word, dry_word, entry_line, kind_words, left_word, piece_words, shown_words, why_word};
 ghost use Rattle.journal_model.specs.scripts.Words.{actor_word, hex, listed, mem_word, name_of, spans_word};
 ghost use Rattle.journal_model.specs.reports.ReportText.{answer_words};
@@ -22,123 +22,132 @@ pub(crate) fn make_entry_line(
     line.put_number(number)?;
     line.put_byte(b' ')?;
     put_actor(line, entry.who)?;
-    line.word(verb(&entry.kind))?;
-    put_arguments(line, script, &entry.kind)?;
+    put_kind(line, script, &entry.kind)?;
     line.end_line()
 }
 
-/// Returns the first word of an entry's text.
-fn verb(kind: &Kind) -> &'static [u8]
-    ensures { (script : _) → slice_get (kind_words script kind.now) 0 ≡ Some result.now }
+/// Puts an entry's text without its number and actor into `line`.
+fn put_kind(line: &mut Line, script: &Script, kind: &Kind) -> Result<(), NoMemory>
+    ensures { OnOk result (line.new ≡ line.old ++ spaced_out (kind_words script.now kind.now)) }
 {
     match kind {
-        Kind::Ticket { .. } => b"ticket",
-        Kind::Reserve { .. } => b"reserve",
-        Kind::Backoff { .. } => b"backoff",
-        Kind::New { .. } => b"new",
-        Kind::Free { .. } => b"free",
-        Kind::Take { .. } => b"take",
-        Kind::Untake { .. } => b"untake",
-        Kind::Populate { .. } => b"populate",
-        Kind::SwapIn { .. } => b"swapin",
-        Kind::Depopulate { .. } => b"depopulate",
-        Kind::Bind { .. } => b"bind",
-        Kind::Unbind { .. } => b"unbind",
-        Kind::Move { .. } => b"move",
-        Kind::Catch { .. } => b"catch",
-        Kind::Loose { .. } => b"loose",
-        Kind::Skip { .. } => b"skip",
-        Kind::Dry { .. } => b"dry",
-        Kind::SwapOut { .. } => b"swapout",
-        Kind::NoPages { .. } => b"nopages",
-        Kind::Arm { .. } => b"arm",
-        Kind::Packet { .. } => b"packet",
-        Kind::Done { .. } => b"done",
-        Kind::Reap { .. } => b"reap",
-        Kind::Bulk { .. } => b"bulk",
-        Kind::Result { .. } => b"result",
-        Kind::Refused { .. } => b"refused",
-    }
-}
-
-/// Puts the other words of an entry's text into `line`.
-fn put_arguments(line: &mut Line, script: &Script, kind: &Kind) -> Result<(), NoMemory>
-    ensures { OnOk result (line.new ≡ line.old ++ spaced_out (drop 1 (kind_words script.now kind.now))) }
-{
-    match kind {
-        Kind::Ticket { s } => line.number(s.0),
-        Kind::Reserve { b } => line.word(name_of(script, *b)),
-        Kind::Backoff { b, s } => put_numbers(line, script, *b, &[s.0]),
-        Kind::New { b } => line.word(name_of(script, *b)),
-        Kind::Free { b, g } => put_numbers(line, script, *b, &[*g]),
-        Kind::Take { b, mem, spans } => put_range(line, script, *b, *mem, spans.items()),
-        Kind::Untake { b, mem } => put_mem(line, script, *b, *mem),
-        Kind::Populate { b, page, frame } => put_pages(line, script, *b, &[*page, *frame]),
+        Kind::Ticket { s } => put_count(line, b"ticket", s.0),
+        Kind::Reserve { b } => put_named(line, b"reserve", script, *b),
+        Kind::Backoff { b, s } => put_numbers(line, b"backoff", script, *b, &[s.0]),
+        Kind::New { b } => put_named(line, b"new", script, *b),
+        Kind::Free { b, g } => put_numbers(line, b"free", script, *b, &[*g]),
+        Kind::Take { b, mem, spans } => put_take(line, script, *b, *mem, spans.items()),
+        Kind::Untake { b, mem } => put_mem(line, b"untake", script, *b, *mem),
+        Kind::Populate { b, page, frame } => {
+            put_pages(line, b"populate", script, *b, &[*page, *frame])
+        }
         Kind::SwapIn {
             b,
             page,
             slot,
             frame,
-        } => put_pages(line, script, *b, &[*page, *slot, *frame]),
-        Kind::Depopulate { b } => line.word(name_of(script, *b)),
-        Kind::Bind { b } => line.word(name_of(script, *b)),
-        Kind::Unbind { b } => line.word(name_of(script, *b)),
+        } => put_pages(line, b"swapin", script, *b, &[*page, *slot, *frame]),
+        Kind::Depopulate { b } => put_named(line, b"depopulate", script, *b),
+        Kind::Bind { b } => put_named(line, b"bind", script, *b),
+        Kind::Unbind { b } => put_named(line, b"unbind", script, *b),
         Kind::Move { b, mem, num, left } => put_move(line, script, *b, *mem, *num, *left),
         Kind::Catch { b, why } => put_catch(line, script, *b, *why),
-        Kind::Loose { b } => line.word(name_of(script, *b)),
-        Kind::Skip { b } => line.word(name_of(script, *b)),
+        Kind::Loose { b } => put_named(line, b"loose", script, *b),
+        Kind::Skip { b } => put_named(line, b"skip", script, *b),
         Kind::Dry { b, k, why } => put_dry(line, script, *b, *k, why),
-        Kind::SwapOut { b, page, slot } => put_pages(line, script, *b, &[*page, *slot]),
-        Kind::NoPages { b } => line.word(name_of(script, *b)),
+        Kind::SwapOut { b, page, slot } => {
+            put_pages(line, b"swapout", script, *b, &[*page, *slot])
+        }
+        Kind::NoPages { b } => put_named(line, b"nopages", script, *b),
         Kind::Arm { engine, num } => put_arm(line, *engine, *num),
         Kind::Packet { num, k, piece } => put_packet(line, *num, *k, piece.items()),
-        Kind::Done { num } => line.number(*num),
-        Kind::Reap { g } => line.number(*g),
-        Kind::Bulk { group } => line.number(u64::from(*group)),
-        Kind::Result { shown } => put_shown(line, shown),
-        Kind::Refused { deny } => line.word(deny_word(*deny)),
+        Kind::Done { num } => put_count(line, b"done", *num),
+        Kind::Reap { g } => put_count(line, b"reap", *g),
+        Kind::Bulk { group } => put_count(line, b"bulk", u64::from(*group)),
+        Kind::Result { shown } => put_result(line, shown),
+        Kind::Refused { deny } => put_refused(line, *deny),
     }
 }
 
-/// Puts the name of buffer `b` and `numbers` into `line`.
-fn put_numbers(line: &mut Line, script: &Script, b: BufId, numbers: &[u64]) -> Result<(), NoMemory>
-    ensures { OnOk result (line.new ≡ line.old ++ spaced_out (name_of script.now b ∷ map decimal numbers.now)) }
+/// Puts a word and a number into `line`.
+#[inline(always)]
+pub(crate) fn put_count(line: &mut Line, word: &[u8], number: u64) -> Result<(), NoMemory>
+    ensures { OnOk result (line.new ≡ line.old ++ spaced_out (word.now ∷ decimal number ∷ [])) }
 {
-    line.word(name_of(script, b))?;
+    line.word(word)?;
+    line.number(number)
+}
+
+/// Puts a word and the name of buffer `b` into `line`.
+#[inline(always)]
+fn put_named(line: &mut Line, word: &[u8], script: &Script, b: BufId) -> Result<(), NoMemory>
+    ensures { OnOk result (line.new ≡ line.old ++ spaced_out (word.now ∷ name_of script.now b ∷ [])) }
+{
+    line.word(word)?;
+    line.word(name_of(script, b))
+}
+
+/// Puts a word, the name of buffer `b`, and `numbers` into `line`.
+#[inline(always)]
+fn put_numbers(
+    line: &mut Line,
+    word: &[u8],
+    script: &Script,
+    b: BufId,
+    numbers: &[u64],
+) -> Result<(), NoMemory>
+    ensures { OnOk result (line.new ≡ line.old ++ spaced_out (word.now ∷ name_of script.now b ∷ map decimal numbers.now)) }
+{
+    put_named(line, word, script, b)?;
     for number in numbers {
         line.number(*number)?;
     }
     Ok(())
 }
 
-/// Puts the name of buffer `b`, and the numbers of pages, frames or slots, into `line`.
-fn put_pages(line: &mut Line, script: &Script, b: BufId, numbers: &[u32]) -> Result<(), NoMemory>
-    ensures { OnOk result (line.new ≡ line.old ++ spaced_out (name_of script.now b ∷ map decimal numbers.now)) }
+/// Puts a word, the name of buffer `b`, and the numbers of pages, frames or slots, into `line`.
+#[inline(always)]
+fn put_pages(
+    line: &mut Line,
+    word: &[u8],
+    script: &Script,
+    b: BufId,
+    numbers: &[u32],
+) -> Result<(), NoMemory>
+    ensures { OnOk result (line.new ≡ line.old ++ spaced_out (word.now ∷ name_of script.now b ∷ map decimal numbers.now)) }
 {
-    line.word(name_of(script, b))?;
+    put_named(line, word, script, b)?;
     for number in numbers {
         line.number(u64::from(*number))?;
     }
     Ok(())
 }
 
-fn put_mem(line: &mut Line, script: &Script, b: BufId, mem: Mem) -> Result<(), NoMemory>
-    ensures { OnOk result (line.new ≡ line.old ++ spaced_out (name_of script.now b ∷ mem_word mem ∷ [])) }
+/// Puts a word, the name of buffer `b`, and a memory type into `line`.
+#[inline(always)]
+fn put_mem(
+    line: &mut Line,
+    word: &[u8],
+    script: &Script,
+    b: BufId,
+    mem: Mem,
+) -> Result<(), NoMemory>
+    ensures { OnOk result (line.new ≡ line.old ++ spaced_out (word.now ∷ name_of script.now b ∷ mem_word mem ∷ [])) }
 {
-    line.word(name_of(script, b))?;
+    put_named(line, word, script, b)?;
     line.word(mem_word(mem))
 }
 
-fn put_range(
+fn put_take(
     line: &mut Line,
     script: &Script,
     b: BufId,
     mem: Mem,
     spans: &[Span],
 ) -> Result<(), NoMemory>
-    ensures { OnOk result (line.new ≡ line.old ++ spaced_out (name_of script.now b ∷ mem_word mem ∷ spans_word spans.now ∷ [])) }
+    ensures { OnOk result (line.new ≡ line.old ++ spaced_out (codes "take" ∷ name_of script.now b ∷ mem_word mem ∷ spans_word spans.now ∷ [])) }
 {
-    put_mem(line, script, b, mem)?;
+    put_mem(line, b"take", script, b, mem)?;
     line.put_byte(b' ')?;
     put_spans(line, spans)
 }
@@ -151,9 +160,9 @@ fn put_move(
     num: u64,
     left: Left,
 ) -> Result<(), NoMemory>
-    ensures { OnOk result (line.new ≡ line.old ++ spaced_out (name_of script.now b ∷ mem_word mem ∷ decimal num ∷ left_word left ∷ [])) }
+    ensures { OnOk result (line.new ≡ line.old ++ spaced_out (codes "move" ∷ name_of script.now b ∷ mem_word mem ∷ decimal num ∷ left_word left ∷ [])) }
 {
-    put_mem(line, script, b, mem)?;
+    put_mem(line, b"move", script, b, mem)?;
     line.number(num)?;
     match left {
         Left::Now => line.word(b"now"),
@@ -162,9 +171,9 @@ fn put_move(
 }
 
 fn put_catch(line: &mut Line, script: &Script, b: BufId, why: Why) -> Result<(), NoMemory>
-    ensures { OnOk result (line.new ≡ line.old ++ spaced_out (name_of script.now b ∷ why_word why ∷ [])) }
+    ensures { OnOk result (line.new ≡ line.old ++ spaced_out (codes "catch" ∷ name_of script.now b ∷ why_word why ∷ [])) }
 {
-    line.word(name_of(script, b))?;
+    put_named(line, b"catch", script, b)?;
     line.word(match why {
         Why::Vram => b"vram",
         Why::Tt => b"tt",
@@ -173,9 +182,9 @@ fn put_catch(line: &mut Line, script: &Script, b: BufId, why: Why) -> Result<(),
 }
 
 fn put_dry(line: &mut Line, script: &Script, b: BufId, k: u32, why: &DryWhy) -> Result<(), NoMemory>
-    ensures { OnOk result (line.new ≡ line.old ++ spaced_out (name_of script.now b ∷ decimal k ∷ dry_word script.now why.now ∷ [])) }
+    ensures { OnOk result (line.new ≡ line.old ++ spaced_out (codes "dry" ∷ name_of script.now b ∷ decimal k ∷ dry_word script.now why.now ∷ [])) }
 {
-    put_pages(line, script, b, &[k])?;
+    put_pages(line, b"dry", script, b, &[k])?;
     line.put_byte(b' ')?;
     match why {
         DryWhy::Short => line.put(b"short"),
@@ -227,23 +236,31 @@ fn put_reserved(line: &mut Line, stamp: u64) -> Result<(), NoMemory>
 }
 
 fn put_arm(line: &mut Line, engine: u32, num: u64) -> Result<(), NoMemory>
-    ensures { OnOk result (line.new ≡ line.old ++ spaced_out ((codes "e" ++ decimal engine) ∷ decimal num ∷ [])) }
+    ensures { OnOk result (line.new ≡ line.old ++ spaced_out (codes "arm" ∷ (codes "e" ++ decimal engine) ∷ decimal num ∷ [])) }
 {
+    line.word(b"arm")?;
     line.put_byte(b' ')?;
     put_numbered(line, b'e', u64::from(engine))?;
     line.number(num)
 }
 
 fn put_packet(line: &mut Line, num: u64, k: u32, piece: &[u8]) -> Result<(), NoMemory>
-    ensures { OnOk result (line.new ≡ line.old ++ spaced_out (decimal num ∷ decimal k ∷ piece_words piece.now)) }
+    ensures { OnOk result (line.new ≡ line.old ++ spaced_out (codes "packet" ∷ decimal num ∷ decimal k ∷ piece_words piece.now)) }
 {
-    line.number(num)?;
+    put_count(line, b"packet", num)?;
     line.number(u64::from(k))?;
     if piece.is_empty() {
         return Ok(());
     }
     line.put_byte(b' ')?;
     put_hex(line, piece)
+}
+
+fn put_result(line: &mut Line, shown: &Shown) -> Result<(), NoMemory>
+    ensures { OnOk result (line.new ≡ line.old ++ spaced_out (codes "result" ∷ shown_words shown.now)) }
+{
+    line.word(b"result")?;
+    put_shown(line, shown)
 }
 
 /// Puts what a result shows into `line`.

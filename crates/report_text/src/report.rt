@@ -1,5 +1,6 @@
 ghost use Rattle.std.specs.Prelude.{◌≡◌, ◌+◌, ◌++◌, ◌∷◌, ◌||◌, [], codes, decimal, drop, flat_map, filter_map, is_some, length, unwrap_or, IsTrue, OnOk};
 ghost use Rattle.std.specs.List.{enumerate_from, list_any};
+ghost use Rattle.io_edge.specs.Lines.{is_line};
 ghost use Rattle.io_edge.specs.Written.{Writes};
 ghost use Rattle.journal_model.specs.marks.Marks.{is_map, is_vmap};
 ghost use Rattle.journal_model.specs.scripts.Words.{line as line_of, thread_word};
@@ -10,12 +11,13 @@ ghost use Rattle.journal_model.specs.rules.Legal.{state_of};
 ghost use Rattle.page_accounts.specs.Accounts.{AreAccountsOf, told};
 ghost use Rattle.report_mappings.specs.Faults.{IsLegalIfMapped};
 ghost use Rattle.report_mappings.specs.Requests.{are_in_spaces};
-ghost use Rattle.report_text.specs.Lines.{are_lines};
+ghost use Rattle.report_text.specs.Lines as lines;
+ghost use Rattle.report_text.specs.Lines.{are_lines, breaks};
 ghost use Rattle.report_text.specs.Parts.{four_lines, journal_part, mappings_part, outcome_part};
 ghost use Rattle.text_line.specs.Spaced.{spaced_out};
 ghost use Rattle.report_text.specs.WriteFault.{faults_after_writing};
 
-use crate::entry::{make_entry_line, put_answer};
+use crate::entry::{make_entry_line, put_answer, put_count};
 use io_edge::{Failed, Sink, write_all};
 use journal_model::{Entry, Kind, Script, Sizes};
 use page_accounts::{Account, Accounts};
@@ -69,19 +71,51 @@ fn write_lines<K: Sink>(text: &[u8], sink: &mut K) -> Result<(), WriteFault>
     Ok(())
 }
 
+/// Writes a line as one piece.
+fn write_line<K: Sink>(line: &[u8], sink: &mut K) -> Result<(), WriteFault>
+    requires { IsTrue (is_line line.now) }
+    ensures text { Writes result (K.written sink.old) (K.written sink.new) line.now }
+    ensures faults { K.faults sink.new ≡ faults_after_writing result (K.faults sink.old) }
+    ensures lines { K.broken sink.new ≡ K.broken sink.old }
+{
+    write_all(sink, line)?;
+    Ok(())
+}
+
+fn breaks(text: &[u8]) -> bool
+    ensures { result ≡ breaks text.now }
+{
+    text.iter().any(|byte| *byte == b'\n')
+}
+
+/// Returns whether a declared name has a line feed, as none has that was read. Where none has, each entry is one line.
+fn names_break(script: &Script) -> bool
+    ensures { result ≡ lines.names_break script.now }
+{
+    let buffers = script.buffers.items();
+    buffers.iter().any(|decl| breaks(decl.name.items()))
+}
+
+/// Writes the line of `entry`. `names_break` tells whether it may be several.
 fn write_entry<K: Sink>(
     line: &mut Line,
     script: &Script,
+    names_break: bool,
     number: u64,
     entry: &Entry,
     sink: &mut K,
 ) -> Result<(), WriteFault>
+    requires { names_break ≡ lines.names_break script.now }
     ensures text { Writes result (K.written sink.old) (K.written sink.new) (entry_line script.now (number, entry.now)) }
     ensures faults { K.faults sink.new ≡ faults_after_writing result (K.faults sink.old) }
     ensures lines { K.broken sink.new ≡ K.broken sink.old }
 {
     make_entry_line(line, script, number, entry)?;
-    write_lines(line.bytes(), sink)
+    if names_break {
+        write_lines(line.bytes(), sink)
+    } else {
+        write_line(line.bytes(), sink)
+    }
 }
 
 fn write_entries<K: Sink>(
@@ -94,8 +128,9 @@ fn write_entries<K: Sink>(
     ensures faults { K.faults sink.new ≡ faults_after_writing result (K.faults sink.old) }
     ensures lines { K.broken sink.new ≡ K.broken sink.old }
 {
+    let names_break = names_break(script);
     for (i, entry) in journal.iter().enumerate() {
-        write_entry(line, script, i as u64 + 1, entry, sink)?;
+        write_entry(line, script, names_break, i as u64 + 1, entry, sink)?;
     }
     Ok(())
 }
@@ -177,7 +212,7 @@ fn write_answer<K: Sink>(
     ensures lines { K.broken sink.new ≡ K.broken sink.old }
 {
     make_answer_line(line, thread, number, kind)?;
-    write_lines(line.bytes(), sink)
+    write_line(line.bytes(), sink)
 }
 
 fn make_answer_line(line: &mut Line, thread: u64, number: u64, kind: &Kind) -> Result<(), NoMemory>
@@ -251,20 +286,12 @@ fn make_account_line(
 {
     line.clear();
     line.put(name)?;
-    put_labelled(line, b"size", u64::from(size))?;
-    put_labelled(line, b"free", account.free)?;
-    put_labelled(line, b"live", account.live)?;
-    put_labelled(line, b"target", account.target)?;
-    put_labelled(line, b"ghost", account.ghosts)?;
+    put_count(line, b"size", u64::from(size))?;
+    put_count(line, b"free", account.free)?;
+    put_count(line, b"live", account.live)?;
+    put_count(line, b"target", account.target)?;
+    put_count(line, b"ghost", account.ghosts)?;
     line.end_line()
-}
-
-/// Puts a word and a number into `line`.
-fn put_labelled(line: &mut Line, label: &[u8], number: u64) -> Result<(), NoMemory>
-    ensures { OnOk result (line.new ≡ line.old ++ spaced_out (label.now ∷ decimal number ∷ [])) }
-{
-    line.word(label)?;
-    line.number(number)
 }
 
 fn write_accounts<K: Sink>(

@@ -8,9 +8,7 @@ use Rattle.report_text.proofs.entry.make_entry_line.Goals as goal
 
 pub returns : goal.returns
 returns c =
-    let script = c.args.script.now in
-    let entry = c.args.entry.now in
     on_ok_weaker c.end_line.result
-    (λ end. line_of_two (decimal c.args.number) (actor_word entry.who) c.verb.result.now c.word.new.self c.put_arguments.new.line c.end_line.new.self
-    (kind_words script entry.kind) (c.verb.ensures script) (grind (arith, common_steps)) c.in_ok-put_arguments.ensures end)
+    (λ end. line_of_two (decimal c.args.number) (actor_word c.args.entry.now.who) c.put_actor.new.line c.put_kind.new.line c.end_line.new.self
+    (kind_words c.args.script.now c.args.entry.now.kind) (grind (arith, common_steps)) c.in_ok-put_kind.ensures end)
     c.end_line.ensures

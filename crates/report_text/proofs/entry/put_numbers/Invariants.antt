@@ -4,4 +4,4 @@ use Rattle.text_line.specs.Spaced.{spaced_out}
 use Rattle.report_text.proofs.entry.put_numbers.Given as goal
 
 abbrev pub invariant-loop-number : goal.invariant-loop-number
-invariant-loop-number l = l.line ≡ l.fn.line ++ spaced_out (name_of l.fn.script l.fn.b ∷ map decimal (take l.number-index l.numbers))
+invariant-loop-number l = l.line ≡ l.fn.line ++ spaced_out (l.fn.word ∷ name_of l.fn.script l.fn.b ∷ map decimal (take l.number-index l.numbers))
