@@ -90,6 +90,16 @@ static int next_missing(struct submission *s, const bool *held, int first)
 	return -1;
 }
 
+/* Makes room for the job's fence in each buffer. */
+static void reserve_fences(struct submission *s)
+{
+	int i;
+
+	for (i = 0; i < s->n; i++)
+		if (dma_resv_reserve_fences(s->buffers[i]->tbo.base.resv, 1))
+			peer_fault("no fences");
+}
+
 /* Reserves by rule order: after a back-off the others are reserved, fenced and touched in their order, and not as the list has them then. */
 static void reserve_in_order(struct submission *s)
 {
@@ -108,9 +118,7 @@ static void reserve_in_order(struct submission *s)
 		}
 		first = at;
 	}
-	for (i = 0; i < s->n; i++)
-		if (dma_resv_reserve_fences(s->buffers[i]->tbo.base.resv, 1))
-			peer_fault("no fences");
+	reserve_fences(s);
 }
 
 static void reserve(struct submission *s)
@@ -219,6 +227,7 @@ const char *do_submit(char **words, int n)
 		back_off(&s);
 		return refusal;
 	}
+	reserve_fences(&s); /* (a move may have taken the room that was there) */
 	fence = emit_submission(&s);
 	ttm_eu_fence_buffer_objects(&s.ticket, &s.list, fence);
 	dma_fence_put(fence);
