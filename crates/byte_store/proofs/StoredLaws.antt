@@ -124,8 +124,23 @@ padded_split first page size h =
     append_assoc first (filled page 0) (filled (size - length (first ++ filled page 0)) 0)
     ∙ ap (λ zs. first ++ zs) (two_filled page (size - length (first ++ filled page 0)) ∙ ap (λ m. filled m 0) e)
 
+-- more zeros after them
+more_zeros : (bytes : List ℕ) (n : ℕ) → EndsInZeros bytes → EndsInZeros (bytes ++ replicate n 0)
+more_zeros bytes n zeros =
+    let first : List ℕ = take (length bytes - 4096) bytes in
+    let split : bytes ++ replicate n 0 ≡ first ++ filled (4096 + n) 0 =
+    ap (λ ys. ys ++ replicate n 0) (split_zeros bytes zeros) ∙ append_assoc first (filled 4096 0) (replicate n 0)
+    ∙ ap (λ zs. first ++ (filled 4096 0 ++ zs)) (filled_is n) ∙ ap (λ zs. first ++ zs) (two_filled 4096 n) in
+    subst EndsInZeros (sym split) (last_page 4096 first (4096 + n) (omega arith))
+
+-- as `resize` stores them
+pub ends_resized : (bytes : List ℕ) (n : ℕ) → length bytes ≤ n → EndsInZeros bytes → EndsInZeros (take n bytes ++ replicate (n - length bytes) 0)
+ends_resized bytes n h zeros =
+    let t : take n bytes ≡ bytes = grind (arith, common_steps) in
+    subst EndsInZeros (ap (λ xs. xs ++ replicate (n - length bytes) 0) (sym t)) (more_zeros bytes (n - length bytes) zeros)
+
 -- at most a page that isn't all stored
-pub part_behind : (bytes : List ℕ) (size at len : ℕ) → len ≤ 4096 → length bytes < at + len → at + len ≤ size → EndsInZeros bytes → part (padded bytes size) at len ≡ filled len 0
+pub part_behind : (bytes : List ℕ) (size at len : ℕ) → len ≤ 4096 → length bytes ≤ at + len → at + len ≤ size → EndsInZeros bytes → part (padded bytes size) at len ≡ filled len 0
 part_behind bytes size at len short h k zeros =
     let page : 4096 ≤ length bytes = ends_length bytes zeros in
     let l : length (take (length bytes - 4096) bytes) ≡ length bytes - 4096 = before_zeros bytes in
@@ -151,9 +166,10 @@ overwritten_same bytes at len h =
     ∙ take-append-drop at bytes
 
 -- zeros over zeros that aren't stored
-pub zeros_behind : (bytes : List ℕ) (size at len : ℕ) → length bytes ≤ size → length bytes ≤ at → at + len ≤ size → overwritten (padded bytes size) at (filled len 0) ≡ padded bytes size
-zeros_behind bytes size at len s h k =
-    ap (λ zs. overwritten (padded bytes size) at zs) (sym (part_zeros bytes (size - length bytes) at len h (omega arith)))
+pub zeros_behind : (bytes : List ℕ) (size at len : ℕ) → len ≤ 4096 → length bytes ≤ size → length bytes ≤ at + len → at + len ≤ size → EndsInZeros bytes
+    → overwritten (padded bytes size) at (filled len 0) ≡ padded bytes size
+zeros_behind bytes size at len short s h k zeros =
+    ap (λ zs. overwritten (padded bytes size) at zs) (sym (part_behind bytes size at len short h k zeros))
     ∙ overwritten_same (padded bytes size) at len (omega (arith, length_padded bytes size s))
 
 -- ---- one byte

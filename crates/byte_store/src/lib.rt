@@ -11,9 +11,6 @@ use ttm_base::NoMemory;
 /// The size of a page in bytes.
 pub const PAGE: u64 = 4096;
 
-/// The number of bytes that are zeroed at once where a store is written beyond the bytes that it has stored.
-const GROWTH: usize = 16 * PAGE as usize;
-
 /// The bytes of a number of pages, one page after the other, seen as a list. Only `new` takes memory, and it only reserves
 /// it: the system provides a page of it when it is first written. So the bytes are stored up to the highest that was
 /// written, with a page or more of zeros, and the bytes after those are zeros.
@@ -98,7 +95,7 @@ impl ByteStore {
         fill_part(&mut self.bytes, at as usize, end, byte);
     }
 
-    /// Zeroes all bytes of a page. Where none of them is stored they are zeros, and nothing is written.
+    /// Zeroes all bytes of `page`. Where they are those after all that was written, they are zeros, and nothing is written.
     #[tactic(auto, using(crate::proofs::StoredLaws::length_padded, crate::proofs::StoredLaws::zeros_behind))]
     pub fn zero_page(&mut self, page: u32)
         requires { PAGE * page + PAGE ≤ length self.old }
@@ -106,7 +103,8 @@ impl ByteStore {
         ensures len { length self.new ≡ length self.old }
     {
         let start = PAGE * page as u64;
-        if start < self.bytes.len() as u64 {
+        let stored = self.bytes.len();
+        if stored == self.size || start + PAGE < stored as u64 {
             self.fill(start, PAGE, 0);
         }
     }
@@ -179,7 +177,7 @@ fn store_first(bytes: &mut Vec<u8>, count: usize)
 }
 
 /// Stores the zeros up to position `end`, and after it a page of them, or as many as there are up to `size`.
-#[tactic(auto, using(crate::proofs::StoredLaws::padded_resized, crate::proofs::StoredLaws::ends_in_zeros))]
+#[tactic(auto, using(crate::proofs::StoredLaws::padded_resized, crate::proofs::StoredLaws::ends_resized))]
 fn store_up_to(bytes: &mut Vec<u8>, size: usize, end: usize)
     requires fits { end ≤ size }
     requires stored { vec_len bytes.old ≤ size }
@@ -192,9 +190,9 @@ fn store_up_to(bytes: &mut Vec<u8>, size: usize, end: usize)
     ensures spare { vec_len bytes.new < size → end + PAGE ≤ vec_len bytes.new }
     ensures zeros { vec_len bytes.new < size → EndsInZeros bytes.new.items }
 {
-    let left = size - end;
-    if bytes.len() < end + left.min(PAGE as usize) {
-        bytes.resize(end + left.min(GROWTH), 0).unwrap();
+    let wanted = end + (size - end).min(PAGE as usize);
+    if bytes.len() < wanted {
+        bytes.resize(wanted, 0).unwrap();
     }
 }
 
