@@ -1,3 +1,2 @@
 pub mod BlockLaws
-pub mod HoleLaws
 pub mod OpenLaws

@@ -4,8 +4,8 @@ ghost use Rattle.ttm_base.specs.Holes.{holes, is_free_beside};
 ghost use Rattle.manager_walk.specs.Walk.{is_open, IsNextHeld, NoneFrom};
 ghost use Rattle.manager_walk.specs.Cutting.{grown, blocks_of, free_list};
 
-use crate::listing::add_page;
 use buddy_manager::{AllocFault, BuddyFlags, BuddyManager};
+use place_list::spans::add_page;
 use std::alloc::Global;
 use ttm_base::{NoMemory, Span, Spans};
 

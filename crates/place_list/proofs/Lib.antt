@@ -1,2 +1,4 @@
 pub mod PlaceLaws
 pub mod CursorLaws
+pub mod Stretches
+pub mod HoleLaws

@@ -1,2 +1,2 @@
-pub mod rules_places
 pub mod SpanPages
+pub mod Stretch

@@ -1,16 +1,17 @@
 //! Tests of places: which pages of a manager a place reaches, whether a resource meets or fits them, and which places of a
 //! list are tried first or under pressure. Also a cursor over the pages of a resource. Placements are those of TTM
-//! (ttm_placement since kernel 6.9), the cursor is that of drivers (xe_res_cursor). No call takes memory.
+//! (ttm_placement since kernel 6.9), the cursor is that of drivers (xe_res_cursor). No call takes memory but `spans::add_page`.
 #![tactic(auto)]
 
-ghost use Rattle.std.specs.Prelude.{◌≡◌, ◌^◌, ◌<◌, length, not, slice_get, Some};
+ghost use Rattle.std.specs.Prelude.{◌≡◌, ◌^◌, ◌<◌, length, slice_get, Some};
 ghost use Rattle.ttm_base.specs.Reach as words;
 ghost use Rattle.ttm_base.specs.Placement as rules;
 
-use ttm_base::{FlaggedPlace, Mem, Place, Placement, Span, Spans};
+use ttm_base::{Mem, Place, Placement, Span, Spans};
 
 pub mod page_cursor;
-pub mod rules_places;
+pub mod places;
+pub mod spans;
 
 pub use page_cursor::PageCursor;
 
@@ -20,7 +21,7 @@ pub fn reach(place: &Place, size: u32) -> (u32, u32)
     ensures start { result.0 ≡ (words.reach place.now size).start }
     ensures end { result.1 ≡ (words.reach place.now size).end }
 {
-    let within = crate::rules_places::reach(*place, size);
+    let within = crate::spans::reach(*place, size);
     (within.start, within.end)
 }
 
@@ -32,7 +33,7 @@ pub fn intersects(spans: &Spans, reach: (u32, u32)) -> bool
         start: reach.0,
         end: reach.1,
     };
-    crate::rules_places::intersects(spans.items(), within)
+    crate::spans::intersects(spans.items(), within)
 }
 
 /// Returns whether some place of the placement accepts the resource, whose manager has `size` pages
@@ -40,21 +41,7 @@ pub fn intersects(spans: &Spans, reach: (u32, u32)) -> bool
 pub fn compatible(mem: Mem, spans: &Spans, placement: &Placement, size: u32) -> bool
     ensures { result ≡ rules.compatible mem spans.now placement.now size }
 {
-    crate::rules_places::compatible(mem, spans.items(), placement.list.items(), size)
-}
-
-/// Returns whether the place is tried first.
-fn is_first(place: &FlaggedPlace) -> bool
-    ensures { result ≡ not place.now.fallback }
-{
-    !place.fallback
-}
-
-/// Returns whether the place is tried under pressure.
-fn is_forced(place: &FlaggedPlace) -> bool
-    ensures { result ≡ not place.now.desired }
-{
-    !place.desired
+    crate::places::compatible(mem, spans.items(), placement.list.items(), size)
 }
 
 /// Returns the number of places that are tried first.
@@ -62,12 +49,7 @@ pub fn first_count(placement: &Placement) -> u32
     requires { length placement.now.list < 2 ^ 32 }
     ensures { result ≡ length (rules.first_places placement.now.list) }
 {
-    placement
-        .list
-        .items()
-        .iter()
-        .filter(|p| is_first(p))
-        .count() as u32
+    crate::places::first_count(placement.list.items()) as u32
 }
 
 /// Lends the place with number `k` among those that are tried first, counted from 0 in their order.
@@ -75,16 +57,10 @@ pub fn first_at(placement: &Placement, k: u32) -> &Place
     requires { k < length (rules.first_places placement.now.list) }
     ensures { slice_get (rules.first_places placement.now.list) k ≡ Some result.now }
 {
-    let Some(p) = placement
-        .list
-        .items()
-        .iter()
-        .filter(|p| is_first(p))
-        .nth(k as usize)
-    else {
+    let Some(place) = crate::places::first_at(placement.list.items(), k) else {
         unreachable!()
     };
-    &p.place
+    place
 }
 
 /// Returns the number of places that are tried under pressure.
@@ -92,12 +68,7 @@ pub fn forced_count(placement: &Placement) -> u32
     requires { length placement.now.list < 2 ^ 32 }
     ensures { result ≡ length (rules.forced_places placement.now.list) }
 {
-    placement
-        .list
-        .items()
-        .iter()
-        .filter(|p| is_forced(p))
-        .count() as u32
+    crate::places::forced_count(placement.list.items()) as u32
 }
 
 /// Lends the place with number `k` among those that are tried under pressure, counted from 0 in their order.
@@ -105,14 +76,8 @@ pub fn forced_at(placement: &Placement, k: u32) -> &Place
     requires { k < length (rules.forced_places placement.now.list) }
     ensures { slice_get (rules.forced_places placement.now.list) k ≡ Some result.now }
 {
-    let Some(p) = placement
-        .list
-        .items()
-        .iter()
-        .filter(|p| is_forced(p))
-        .nth(k as usize)
-    else {
+    let Some(place) = crate::places::forced_at(placement.list.items(), k) else {
         unreachable!()
     };
-    &p.place
+    place
 }

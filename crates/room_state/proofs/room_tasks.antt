@@ -3,4 +3,3 @@ pub mod Firsts
 pub mod Unfenced
 pub mod Told
 pub mod Marked
-pub mod Stretches

@@ -6,12 +6,12 @@ ghost use Rattle.rules_apply.specs.Ready.{CanGoDry};
 
 use journal_model::{Command, Course, Script, State};
 use rules_state::rules_parts::courses::{fail_search, go_dry};
-use rules_state::{command_at_work, forced_places, is_caught, place_search_at_work};
+use rules_state::{command_at_work, forced_count, is_caught, place_search_at_work};
 use std::alloc::Global;
 use ttm_base::{BufId, Deny, NoMemory};
 
 /// Counts the places that the search of buffer `b` tries under pressure.
-fn forced_count(
+fn count_forced(
     alloc: Global,
     script: &Script,
     state: &State,
@@ -22,8 +22,7 @@ fn forced_count(
     ensures { IfOk result (λ n. n ≡ length (forced_places (words.place_search_at_work script.now state.now course.now command.now b).list)) }
 {
     let place_search = place_search_at_work(alloc, script, state, course, command, b)?;
-    let places = forced_places(alloc, place_search.list.items())?;
-    Ok(places.len())
+    Ok(forced_count(place_search.list.items()))
 }
 
 /// Notes that place `k` is dry. After the last one the search of a named buffer has failed; a victim has one place alone. Without memory it
@@ -45,7 +44,7 @@ pub fn dry(
         return Ok(());
     };
     let course = state.courses.get(thread as usize - 1);
-    let places = forced_count(alloc, script, state, course, command, b)?;
+    let places = count_forced(alloc, script, state, course, command, b)?;
     let course = state.courses.get_mut(thread as usize - 1);
     if is_caught(course, b) {
         fail_search(course, b, Deny::NoSpace);

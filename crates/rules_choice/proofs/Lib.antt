@@ -1,4 +1,3 @@
-pub mod HoleLaws
 pub mod FitLaws
 pub mod RunLaws
 pub mod OrderLaws

@@ -5,7 +5,7 @@ ghost use Rattle.rules_choice.specs.Marks.{marked, IsWithout};
 use crate::blocks::{FreePages, count_anew, counted};
 use crate::candidates::{candidate, first_candidate};
 use crate::pages::take_span;
-use place_list::rules_places::length_of;
+use place_list::spans::length_of;
 use std::alloc::Global;
 use ttm_base::{NoMemory, Span, Spans, log2, order_of};
 

@@ -6,7 +6,7 @@ ghost use Rattle.rules_choice.specs.Least.{best_with, has_key, lesser_by};
 ghost use Rattle.rules_choice.specs.Candidates.{candidate_of};
 
 use crate::blocks::{FreeBlock, FreePages, block_len};
-use place_list::rules_places::is_inside;
+use place_list::spans::is_inside;
 use ttm_base::Span;
 
 /// Returns the block of order `order` around the page `start`, if it is free and inside `range`.

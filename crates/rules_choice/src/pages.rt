@@ -1,7 +1,8 @@
-ghost use Rattle.std.specs.Prelude.{◌≡◌, ◌+◌, ◌<◌, ◌^◌, ◌&&◌, ℕ, IfOk, OnOk, length, not};
+ghost use Rattle.std.specs.Prelude.{◌≡◌, ◌<◌, ◌^◌, ◌&&◌, ℕ, IfOk, length, not};
 ghost use Rattle.ttm_base.specs.Holes as words;
 ghost use Rattle.rules_choice.specs.Marks.{marked, IsMarked};
 
+use place_list::spans::add_page;
 use std::alloc::Global;
 use ttm_base::{NoMemory, Span, Spans};
 
@@ -26,31 +27,6 @@ pub fn free_marks(alloc: Global, held: &[Span], size: u32) -> Result<Vec<bool>, 
         take_span(&mut marks, *span);
     }
     Ok(marks)
-}
-
-/// Adds the free page `page` after all holes so far: it widens the last one that it touches, or is a new one.
-fn add_page(holes: &mut Spans, page: u32) -> Result<(), NoMemory>
-    requires { page + 1 < 2 ^ 32 }
-    ensures { OnOk result (holes.new ≡ words.with_page page holes.old) }
-{
-    let len = holes.len();
-    if len > 0 {
-        let last = holes.at(len - 1);
-        if last.end == page {
-            holes.set(
-                len - 1,
-                Span {
-                    start: last.start,
-                    end: page + 1,
-                },
-            );
-            return Ok(());
-        }
-    }
-    holes.push(Span {
-        start: page,
-        end: page + 1,
-    })
 }
 
 /// Returns the holes among the marked pages, in rising order.

@@ -2,7 +2,7 @@ ghost use Rattle.std.specs.Prelude.{◌≡◌, Some, option_map};
 ghost use Rattle.ttm_base.specs.RangeChoice as words;
 ghost use Rattle.rules_choice.specs.Fits.{fit_of, better_fit};
 
-use place_list::rules_places::{common, length_of};
+use place_list::spans::{common, length_of};
 use ttm_base::{Mode, Span};
 
 /// A hole, and the pages that a request would take of it.

@@ -5,7 +5,7 @@ ghost use Rattle.journal_model.specs.rules.Holds as words;
 ghost use Rattle.rules_holds.specs.Held.{spans_of_slot};
 
 use journal_model::{Buffer, Core, Ghost};
-use place_list::rules_places::same_mem;
+use place_list::spans::same_mem;
 use rules_state::target_spans;
 use std::alloc::Global;
 use ttm_base::{Mem, NoMemory, Span, Spans};

@@ -1,4 +1,5 @@
 ghost use Rattle.std.specs.Prelude.{◌≡◌, IfOk};
+ghost use Rattle.ttm_base.specs.Placement.{first_places, forced_places};
 ghost use Rattle.rules_state.specs.PlaceSearches.{place_search_of};
 ghost use Rattle.journal_model.specs.rules.Search as words;
 ghost use Rattle.rules_search.specs.Room.{HasRoom};
@@ -7,9 +8,9 @@ use crate::Step;
 use crate::dry::{causes, ghost_in, is_long_enough, victim};
 use journal_model::{Course, DryWhy, Kind, Script, State, Why};
 use rules_choice::choice;
-use rules_state::{PlaceSearch, first_places, forced_places, whole};
+use rules_state::{PlaceSearch, forced_at, is_first, whole};
 use std::alloc::Global;
-use ttm_base::{BufId, Mem, Need, NoMemory, Place, Spans};
+use ttm_base::{BufId, FlaggedPlace, Mem, Need, NoMemory, Place, Spans};
 
 /// Returns for what a victim in the memory type `mem` is caught.
 pub fn why_of(mem: Mem) -> Why
@@ -60,7 +61,7 @@ fn step_of_crowded(
     }))
 }
 
-/// Returns the step at the `k`-th of the forced places `places`.
+/// Returns the step at the `k`-th of the places of `list` that are tried under pressure.
 fn step_of_forced(
     alloc: Global,
     script: &Script,
@@ -68,12 +69,12 @@ fn step_of_forced(
     course: &Course,
     b: BufId,
     k: u32,
-    places: &[Place],
+    list: &[FlaggedPlace],
 ) -> Result<Step, NoMemory>
     requires { HasRoom script.now state.now }
-    ensures { IfOk result (λ step. step ≡ words.step_of_forced script.now state.now course.now b k places.now) }
+    ensures { IfOk result (λ step. step ≡ words.step_of_forced script.now state.now course.now b k (forced_places list.now)) }
 {
-    let place = match places.get(k as usize) {
+    let place = match forced_at(list, k) {
         Some(place) => *place,
         None => whole(Mem::System),
     };
@@ -87,20 +88,22 @@ fn step_of_forced(
     }
 }
 
-/// Returns the memory type and the pages of the first of `places` with a choice, or `None` if none has one.
+/// Returns the memory type and the pages of the first place with a choice, among those of `list` that are tried first, or `None` if none has one.
 fn first_choice(
     alloc: Global,
     script: &Script,
     state: &State,
     b: BufId,
-    places: &[Place],
+    list: &[FlaggedPlace],
 ) -> Result<Option<(Mem, Spans)>, NoMemory>
     requires { HasRoom script.now state.now }
-    ensures { IfOk result (λ found. found ≡ words.first_choice script.now state.now b places.now) }
+    ensures { IfOk result (λ found. found ≡ words.first_choice script.now state.now b (first_places list.now)) }
 {
-    for place in places {
-        if let Some(spans) = choice(alloc, script, &state.core, b, *place)? {
-            return Ok(Some((place.mem, spans)));
+    for p in list {
+        if is_first(p) {
+            if let Some(spans) = choice(alloc, script, &state.core, b, p.place)? {
+                return Ok(Some((p.place.mem, spans)));
+            }
         }
     }
     Ok(None)
@@ -120,12 +123,11 @@ pub fn step_of_place_search(
     ensures { IfOk result (λ step. step ≡ words.step_of_place_search script.now state.now course.now b (place_search_of place_search.now)) }
 {
     if !place_search.forced {
-        let first = first_places(alloc, place_search.list.items())?;
-        if let Some((mem, spans)) = first_choice(alloc, script, state, b, first.items())? {
+        let list = place_search.list.items();
+        if let Some((mem, spans)) = first_choice(alloc, script, state, b, list)? {
             return Ok(Ok(Kind::Take { b, mem, spans }));
         }
     }
-    let forced = forced_places(alloc, place_search.list.items())?;
     step_of_forced(
         alloc,
         script,
@@ -133,6 +135,6 @@ pub fn step_of_place_search(
         course,
         b,
         place_search.dry,
-        forced.items(),
+        place_search.list.items(),
     )
 }

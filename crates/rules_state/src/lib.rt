@@ -15,10 +15,8 @@ pub use buffers::{
 };
 pub use commands::{asked_places, command_at_work, ops_of};
 pub use lists::{in_order, is_mate, is_member, list_number, same_group};
-pub use place_list::rules_places::{
-    accepts, common, compatible, first_places, forced_places, intersects, is_contiguous, is_inside,
-    length_of, mem_number, reach, same_mem,
-};
+pub use place_list::places::{compatible, forced_at, forced_count, is_first};
+pub use place_list::spans::{intersects, length_of, same_mem};
 pub use place_searches::{PlaceSearch, has_some_target, place_search_at_work, place_search_for};
 pub use places::{frames_of, loc_of, packet_place};
 pub use state_words::{

@@ -2,7 +2,7 @@ ghost use Rattle.std.specs.Prelude.{◌≡◌, ◌*◌, ◌<◌, ◌^◌, IfOk};
 ghost use Rattle.journal_model.specs.rules.Lists as words;
 
 use journal_model::{BufIds, Script, State};
-use place_list::rules_places::mem_number;
+use place_list::spans::mem_number;
 use state_words::declared_group;
 use std::alloc::Global;
 use ttm_base::{BufId, Mem, NoMemory};

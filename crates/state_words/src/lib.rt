@@ -16,7 +16,8 @@ pub use commands::{
     declared_prio, first_mentions, named, unflagged, whole, writes,
 };
 pub use courses::is_caught;
-pub use place_list::rules_places::{compatible, intersects, length_of, same_mem};
+pub use place_list::places::compatible;
+pub use place_list::spans::{intersects, length_of, same_mem};
 pub use placement::{reach_of, size_of};
 pub use places::{frame_of, is_frame, name_in_spans, page_at, page_of_spans, slot_of};
 pub use uses::{is_written, use_of};

@@ -3,7 +3,7 @@ ghost use Rattle.journal_model.specs.rules.Holds as holds;
 ghost use Rattle.journal_model.specs.rules.Choice as choices;
 
 use journal_model::Script;
-use place_list::rules_places::reach;
+use place_list::spans::reach;
 use ttm_base::{Mem, Place, Span};
 
 /// Returns the size of a memory type in pages.

@@ -1,11 +1,10 @@
-use Rattle.std.proofs.Common.{rules, tests, not, sym, ◌∙◌}
-use Rattle.std.proofs.lemmas.Iterator.{YieldsList-from_slice}
-use Rattle.std.proofs.lemmas.Iterator.Consumers.{YieldsList-at, YieldsList-from_filter, count_from_yields_List}
-use Rattle.std.proofs.lemmas.List.{length-map}
+use Rattle.std.proofs.Common.{length, not, ap, ◌∙◌, arith}
+use Rattle.ttm_base.specs.Placement.{first_places}
+use Rattle.place_list.proofs.PlaceLaws.{few}
 use Rattle.place_list.proofs.first_count.Goals as goal
 
-pub returns : goal.returns
-returns c =
-    count_from_yields_List c.filter.result c.count.result c.count.ensures.ran
-    (YieldsList-from_filter _ (λ p. not p.fallback) (YieldsList-at c.filter.ensures.source (YieldsList-from_slice c.args.placement.now.list (cc))) c.filter.ensures.closure (λ x r q k. search (rules, tests)))
-    ∙ sym (length-map _ _)
+pub overflow_cast-result : goal.overflow_cast-result
+overflow_cast-result c =
+    let e = c.first_count.ensures ∙ ap (λ l. length (first_places l)) c.items.ensures in
+    let few = few (λ p. not p.fallback) c.args.placement.now.list in
+    omega (arith, e, few, c.requires)

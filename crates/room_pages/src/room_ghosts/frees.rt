@@ -1,4 +1,4 @@
-ghost use Rattle.std.specs.Prelude.{◌≡◌, ◌<◌, ◌∷◌, ◌++◌, [], OnOk, OnErr};
+ghost use Rattle.std.specs.Prelude.{◌≡◌, ◌∷◌, ◌++◌, [], OnOk, OnErr};
 ghost use Rattle.ttm_base.specs.declared.Actor.TheVariants as actor;
 ghost use Rattle.journal_model.specs.declared.entry.Kind.TheVariants as kind;
 ghost use Rattle.journal_model.specs.rules.Legal.{IsLegalNext, world_of};
@@ -50,39 +50,7 @@ fn free_idle(
     has_freed(&mut parts.courses, thread, b);
 }
 
-/// Frees buffer `b`, which jobs still use: ghost `g` takes over its spans and frames, which stay mapped, and its jobs.
-fn free_busy(
-    parts: &mut Parts,
-    alloc: Global,
-    script: &Script,
-    before: &[Entry],
-    entry: &Entry,
-    thread: u32,
-    b: BufId,
-    g: u64,
-) -> Result<(), NoMemory>
-    requires held { AreHeld script.now before.now parts.old }
-    requires is { entry.now ≡ record { who = actor.Thread thread; kind = kind.Free b g } }
-    requires next { IsLegalNext script.now (world_of script.now before.now) entry.now }
-    requires some { 0 < g }
-    ensures ok { OnOk result (AreHeld script.now (before.now ++ entry.now ∷ []) parts.new) }
-    ensures err { OnErr result (AreHeld script.now before.now parts.new) }
-{
-    parts.lru.members_stand_once();
-    let bo = parts.bos.get(b);
-    let left = ghost_of(alloc, bo, g)?;
-    parts.ghosts.push(left)?;
-    pass_on(&mut parts.vram, Owner::Live(b), Owner::Ghost(g));
-    pass_on(&mut parts.tt, Owner::Live(b), Owner::Ghost(g));
-    drop_slots(&mut parts.swap, bo.table.places());
-    parts.bos.kill(b);
-    take_off(&mut parts.lru, b);
-    has_freed(&mut parts.courses, thread, b);
-    parts.last_ghost = g;
-    Ok(())
-}
-
-/// Frees buffer `b`. Where jobs still use it, it leaves ghost number `g`, else `g` is 0.
+/// Frees buffer `b`. Where jobs still use it, ghost number `g` takes over its spans and frames, which stay mapped, and its jobs; else `g` is 0.
 pub fn free(
     parts: &mut Parts,
     alloc: Global,
@@ -101,8 +69,18 @@ pub fn free(
 {
     if g == 0 {
         free_idle(parts, script, before, entry, thread, b);
-        Ok(())
-    } else {
-        free_busy(parts, alloc, script, before, entry, thread, b, g)
+        return Ok(());
     }
+    parts.lru.members_stand_once();
+    let bo = parts.bos.get(b);
+    let left = ghost_of(alloc, bo, g)?;
+    parts.ghosts.push(left)?;
+    pass_on(&mut parts.vram, Owner::Live(b), Owner::Ghost(g));
+    pass_on(&mut parts.tt, Owner::Live(b), Owner::Ghost(g));
+    drop_slots(&mut parts.swap, bo.table.places());
+    parts.bos.kill(b);
+    take_off(&mut parts.lru, b);
+    has_freed(&mut parts.courses, thread, b);
+    parts.last_ghost = g;
+    Ok(())
 }

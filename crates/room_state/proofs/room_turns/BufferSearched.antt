@@ -68,14 +68,6 @@ buffer_search_buffer cmd c b Hop = by (is_caught c b) refl
     by true e = rw e refl
     by false e = rw e refl
 
--- the place of an entry of a list
-pub place_there : (ps : List FlaggedPlace) (k : ℕ) (p : FlaggedPlace) → Some p ≡ slice_get ps k → slice_get (map (λ (p : FlaggedPlace). p.place) ps) k ≡ Some p.place
-place_there ps k p e = slice_get-map (λ (p : FlaggedPlace). p.place) ps k ∙ ap (option_map (λ (p : FlaggedPlace). p.place)) (sym e)
-
--- nothing after its end
-pub place_lacking : (ps : List FlaggedPlace) (k : ℕ) → None ≡ slice_get ps k → slice_get (map (λ (p : FlaggedPlace). p.place) ps) k ≡ None
-place_lacking ps k e = slice_get-map (λ (p : FlaggedPlace). p.place) ps k ∙ ap (option_map (λ (p : FlaggedPlace). p.place)) (sym e)
-
 -- ---- the thread
 
 module _ (script : Script) (s : State) (t : ℕ) (b : BufId) (aim : SearchAim) (is : task_of script s t ≡ task.Search b aim) where

@@ -6,10 +6,9 @@ ghost use Rattle.room_state.specs.room_tasks.Seen.{is_unready, seen, standing, A
 
 use crate::room_tasks::mentions::{buffers_of, mentions_of};
 use crate::room_tasks::standing::{has_all_frames, has_some_target, live, mem_of, spans_of};
-use crate::room_tasks::stretch::is_accepted;
 use bo_table::{Bo, BoTable};
 use journal_model::{Command, Script};
-use state_words::{declared_places, same_mem, size_of};
+use state_words::{compatible, declared_places, same_mem, size_of};
 use ttm_base::limits::MAX_BUFFERS;
 use ttm_base::{BufId, Mem, Op};
 
@@ -18,7 +17,7 @@ fn is_well_placed(script: &Script, b: BufId, bo: Option<&Bo>) -> bool
     ensures { result ≡ words.is_well_placed script.now b (standing (option_copied bo.entry)) }
 {
     let mem = mem_of(bo);
-    is_accepted(
+    compatible(
         mem,
         spans_of(bo),
         declared_places(script, b),

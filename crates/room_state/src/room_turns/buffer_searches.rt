@@ -15,6 +15,7 @@ ghost use Rattle.room_state.specs.room_turns.BufferSearches.{list_of, place_sear
 
 use crate::Rooms;
 use journal_model::{Command, Course, Script, SearchAim, Task};
+use place_list::places::forced_at;
 use state_words::{as_fallback, declared_places, is_caught, unflagged, whole};
 use ttm_base::{BufId, FlaggedPlace, Mem, Place};
 
@@ -138,8 +139,8 @@ pub fn place_at(script: &Script, buffer_search: BufferSearch, at: usize) -> Flag
 fn forced_place(list: &[FlaggedPlace], dry: u32) -> Place
     ensures { result ≡ unwrap_or (slice_get (forced_places list.now) dry) (all_of System) }
 {
-    match list.iter().filter(|p| !p.desired).nth(dry as usize) {
-        Some(p) => p.place,
+    match forced_at(list, dry) {
+        Some(place) => *place,
         None => whole(Mem::System),
     }
 }

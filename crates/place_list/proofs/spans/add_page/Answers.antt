@@ -2,9 +2,9 @@ use Rattle.std.proofs.Common.{◌≡◌, ◌-◌, ◌+◌, true, false, length, 
 use Rattle.std.specs.Prelude.{nat_eq}
 use Rattle.std.proofs.lemmas.Grind.{common_steps}
 use Rattle.std.proofs.lemmas.Bool.Decides.{nat_tests}
-use Rattle.rules_choice.proofs.HoleLaws.{with_page_touching, with_page_apart, with_page_first}
-use Rattle.rules_choice.proofs.pages.add_page.Goals as goal
-use Rattle.rules_choice.proofs.pages.add_page.Goals.{then-len-gt0+else-last-page, else-len-gt0}
+use Rattle.place_list.proofs.HoleLaws.{with_page_touching, with_page_apart, with_page_first}
+use Rattle.place_list.proofs.spans.add_page.Goals as goal
+use Rattle.place_list.proofs.spans.add_page.Goals.{then-len-gt0+else-last-page, else-len-gt0}
 
 pub returns-then-last-page : goal.returns-then-last-page
 returns-then-last-page c =

@@ -1,5 +1,5 @@
 -- Spans lie in a reach as their stretch does.
-use Rattle.std.proofs.Common.{◌≡◌, ℕ, Bool, true, false, List, [], ◌∷◌, refl, ◌∙◌, ap, ap₂, arith}
+use Rattle.std.proofs.Common.{◌≡◌, ℕ, Bool, true, false, List, [], ◌∷◌, Option, refl, ◌∙◌, ap, ap₂, arith}
 use Rattle.std.specs.Prelude.{min, max, nat_le, ◌&&◌, ◌||◌, not}
 use Rattle.std.specs.List.{list_all, list_any}
 use Rattle.std.proofs.lemmas.Bool.Decides.{nat_tests}
@@ -8,7 +8,7 @@ use Rattle.ttm_base.specs.declared.Span.{Span}
 use Rattle.ttm_base.specs.declared.FlaggedPlace.{FlaggedPlace}
 use Rattle.ttm_base.specs.Reach.{reach, same_mem, is_inside, is_contiguous}
 use Rattle.ttm_base.specs.Placement.{compatible}
-use Rattle.room_state.specs.room_tasks.Stretch.{around, around_all, stretch_of, lies_in, takes}
+use Rattle.place_list.specs.Stretch.{around, around_all, stretch_of, lies_in, takes}
 
 below_both : (w a b : ℕ) → nat_le w (min a b) ≡ (nat_le w a && nat_le w b)
 below_both w a b = grind (arith, nat_tests)
@@ -48,10 +48,35 @@ stretch_inside : (within : Span) (spans : List Span) → lies_in within (stretch
 stretch_inside within [] = refl
 stretch_inside within (s ∷ ss) = all_inside within s ss
 
--- some place accepts them
-pub accepted : (mem : Mem) (spans : List Span) (size : ℕ) (places : List FlaggedPlace) → list_any (λ p. takes mem (stretch_of spans) (is_contiguous spans) size p.place) places ≡ compatible mem spans (record { list = places }) size
+accepted : (mem : Mem) (spans : List Span) (size : ℕ) (places : List FlaggedPlace) → list_any (λ p. takes mem (stretch_of spans) (is_contiguous spans) size p.place) places ≡ compatible mem spans (record { list = places }) size
 accepted mem spans size [] = refl
 accepted mem spans size (p ∷ ps) =
     ap₂ (λ x y. x || y)
     (ap (λ q. same_mem p.place.mem mem && q && (not p.place.contig || is_contiguous spans)) (stretch_inside (reach p.place size) spans))
     (accepted mem spans size ps)
+
+asked : (g c f : Bool) → (g ≡ true → f ≡ true) → (not g || (f && c)) ≡ (not g || c)
+asked false c f h = refl
+asked true c f h = ap (λ x. x && c) (h refl)
+
+or_later : (p q : Bool) → q ≡ true → (p || q) ≡ true
+or_later true q h = refl
+or_later false q h = h
+
+-- whether they are contiguous matters where a place asks for it
+if_asked : (mem : Mem) (stretch : Option Span) (c f : Bool) (size : ℕ) (places : List FlaggedPlace) → (list_any (λ p. p.place.contig) places ≡ true → f ≡ true)
+    → list_any (λ p. takes mem stretch (f && c) size p.place) places ≡ list_any (λ p. takes mem stretch c size p.place) places
+if_asked mem stretch c f size [] h = refl
+if_asked mem stretch c f size (p ∷ ps) h =
+    ap₂ (λ x y. x || y)
+    (ap (λ q. same_mem p.place.mem mem && lies_in (reach p.place size) stretch && q)
+    (asked p.place.contig c f (λ e. h (ap (λ x. x || list_any (λ p. p.place.contig) ps) e))))
+    (if_asked mem stretch c f size ps (λ e. h (or_later p.place.contig (list_any (λ p. p.place.contig) ps) e)))
+
+-- some place accepts them
+pub some_accepts : (mem : Mem) (spans : List Span) (size : ℕ) (places : List FlaggedPlace)
+    → list_any (λ p. takes mem (stretch_of spans) (list_any (λ p. p.place.contig) places && is_contiguous spans) size p.place) places
+    ≡ compatible mem spans (record { list = places }) size
+some_accepts mem spans size places =
+    if_asked mem (stretch_of spans) (is_contiguous spans) (list_any (λ p. p.place.contig) places) size places (λ e. e)
+    ∙ accepted mem spans size places

@@ -1,12 +1,11 @@
-//! Spans of pages, and what a place says of them, as code: which pages of a manager a place reaches, and which resources it
-//! accepts. Each function is named after its definition and returns what the definition says.
-ghost use Rattle.std.specs.Prelude.{◌≡◌, IfOk, nat_lt};
-ghost use Rattle.std.specs.List.{list_all};
+//! Spans of pages as code: which of them a place reaches, what they have in common, and holes page by page. Each function is named after its
+//! definition and returns what the definition says.
+ghost use Rattle.std.specs.Prelude.{◌≡◌, ◌+◌, ◌^◌, ◌<◌, OnOk, nat_lt};
+ghost use Rattle.place_list.specs.Stretch as stretches;
+ghost use Rattle.ttm_base.specs.Holes.{with_page};
 ghost use Rattle.ttm_base.specs.Reach as words;
-ghost use Rattle.ttm_base.specs.Placement as rules;
 
-use std::alloc::Global;
-use ttm_base::{FlaggedPlace, ItemList, Mem, NoMemory, Place, Span};
+use ttm_base::{Mem, NoMemory, Place, Span, Spans};
 
 /// Returns the number of a memory type: 0 for SYSTEM, 1 for TT, 2 for VRAM.
 pub fn mem_number(mem: Mem) -> u32
@@ -81,7 +80,7 @@ pub fn is_inside(within: Span, span: Span) -> bool
 }
 
 /// Returns whether each span begins where the one before it ends.
-pub fn is_contiguous(held: &[Span]) -> bool
+pub(crate) fn is_contiguous(held: &[Span]) -> bool
     ensures { result ≡ words.is_contiguous held.now }
 {
     held.iter()
@@ -89,52 +88,59 @@ pub fn is_contiguous(held: &[Span]) -> bool
         .all(|(a, b)| a.end == b.start)
 }
 
-/// Returns whether all spans are in the reach `within`.
-fn are_inside(within: Span, held: &[Span]) -> bool
-    ensures { result ≡ list_all (words.is_inside within) held.now }
+/// Returns the stretch from the lowest first page of two spans to their highest end.
+fn around(a: Span, b: Span) -> Span
+    ensures { result ≡ stretches.around a b }
 {
-    held.iter().all(|s| is_inside(within, *s))
+    Span {
+        start: a.start.min(b.start),
+        end: a.end.max(b.end),
+    }
 }
 
-/// Returns whether a place accepts a resource: one of its memory type with all pages in its reach, and contiguous if the
-/// place asks for it.
-pub fn accepts(mem: Mem, held: &[Span], size: u32, place: Place) -> bool
-    ensures { result ≡ rules.accepts mem held.now size place }
+/// Returns the stretch from the lowest first page of `held` to their highest end, or None where there are no spans.
+pub(crate) fn stretch_of(held: &[Span]) -> Option<Span>
+    ensures { result ≡ stretches.stretch_of held.now }
 {
-    same_mem(place.mem, mem)
-        && are_inside(reach(place, size), held)
-        && (!place.contig || is_contiguous(held))
+    let (first, others) = held.split_first()?;
+    let mut stretch = *first;
+    for s in others {
+        stretch = around(stretch, *s);
+    }
+    Some(stretch)
 }
 
-/// Returns whether some place of the list accepts the resource.
-pub fn compatible(mem: Mem, held: &[Span], places: &[FlaggedPlace], size: u32) -> bool
-    ensures { result ≡ rules.compatible mem held.now (record { list = places.now }) size }
+/// Returns whether a stretch, if there is one, lies in the reach `within`.
+pub(crate) fn lies_in(within: Span, stretch: Option<Span>) -> bool
+    ensures { result ≡ stretches.lies_in within stretch }
 {
-    places.iter().any(|p| accepts(mem, held, size, p.place))
+    match stretch {
+        Some(span) => is_inside(within, span),
+        None => true,
+    }
 }
 
-/// Returns the places that are tried first, in order.
-pub fn first_places(alloc: Global, list: &[FlaggedPlace]) -> Result<ItemList<Place>, NoMemory>
-    ensures { IfOk result (λ places. places ≡ rules.first_places list.now) }
+/// Adds the free page `page`, which is above all `holes` so far: it widens the last one that it touches, or is a new one.
+pub fn add_page(holes: &mut Spans, page: u32) -> Result<(), NoMemory>
+    requires { page + 1 < 2 ^ 32 }
+    ensures { OnOk result (holes.new ≡ with_page page holes.old) }
 {
-    let mut places = ItemList::new(alloc);
-    for p in list {
-        if !p.fallback {
-            places.push(p.place)?;
+    let len = holes.len();
+    if len > 0 {
+        let last = holes.at(len - 1);
+        if last.end == page {
+            holes.set(
+                len - 1,
+                Span {
+                    start: last.start,
+                    end: page + 1,
+                },
+            );
+            return Ok(());
         }
     }
-    Ok(places)
-}
-
-/// Returns the places that are tried under pressure, in order.
-pub fn forced_places(alloc: Global, list: &[FlaggedPlace]) -> Result<ItemList<Place>, NoMemory>
-    ensures { IfOk result (λ places. places ≡ rules.forced_places list.now) }
-{
-    let mut places = ItemList::new(alloc);
-    for p in list {
-        if !p.desired {
-            places.push(p.place)?;
-        }
-    }
-    Ok(places)
+    holes.push(Span {
+        start: page,
+        end: page + 1,
+    })
 }

@@ -1,6 +1,0 @@
-use Rattle.std.proofs.Common.{◌≡◌, take}
-use Rattle.ttm_base.specs.Placement.{first_places}
-use Rattle.place_list.proofs.rules_places.first_places.Given as goal
-
-abbrev pub invariant-loop-p : goal.invariant-loop-p
-invariant-loop-p l = l.places ≡ first_places (take l.p-index l.list)
