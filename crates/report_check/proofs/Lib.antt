@@ -1,4 +1,5 @@
-pub mod FillLaws
+pub mod KeepLaws
+pub mod TradeLaws
 pub mod ReplayLaws
 pub mod SpanLaws
 pub mod TailLaws
