@@ -1,5 +1,5 @@
 -- Entries that keep page tables and ghosts keep what is free.
-use Rattle.std.proofs.Common.{◌≡◌, ℕ, zero, suc, true, List, [], ◌∷◌, ◌++◌, Option, Some, None, refl, sym, ◌∙◌, ap, subst}
+use Rattle.std.proofs.Common.{false, Bool, ◌≡◌, ℕ, zero, suc, true, List, [], ◌∷◌, ◌++◌, Option, Some, None, refl, sym, ◌∙◌, ap, subst}
 use Rattle.std.specs.Prelude.{filter_map, flat_map, fold, map, slice_get, slice_set, option_and_then, option_map}
 use Rattle.ttm_base.specs.declared.Actor.{Actor}
 use Rattle.ttm_base.specs.declared.BufId.{BufId}
@@ -11,6 +11,7 @@ use Rattle.ttm_base.specs.declared.Op.{Op}
 use Rattle.ttm_base.specs.declared.Usage.TheVariants as usage
 use Rattle.journal_model.specs.declared.script.Script.{Script}
 use Rattle.journal_model.specs.declared.entry.Kind.{Kind}
+use Rattle.journal_model.specs.declared.entry.Left.{Left}
 use Rattle.journal_model.specs.declared.entry.Kind.TheVariants as kind
 use Rattle.journal_model.specs.declared.state.Core.{Core}
 use Rattle.journal_model.specs.declared.state.State.{State}
@@ -29,7 +30,38 @@ use Rattle.rules_holds.specs.declared.free_sets.FreeSets.{FreeSets}
 use Rattle.rules_holds.specs.Held.{frames_of_slot, slots_of_slot}
 use Rattle.rules_holds.specs.Free.{AreUnheld, AreFree}
 use Rattle.rules_holds.proofs.HeldLaws.{live_frames_of, held_slots_of}
-use Rattle.report_check.specs.Kept.{keeps_tables}
+
+-- no page table changes, no buffer comes or goes, and no ghost
+abbrev pub keeps_tables : Kind → Bool
+keeps_tables (kind.New b) = false
+keeps_tables (kind.Free b g) = false
+keeps_tables (kind.Populate b page frame) = false
+keeps_tables (kind.SwapIn b page slot frame) = false
+keeps_tables (kind.SwapOut b page slot) = false
+keeps_tables (kind.Depopulate b) = false
+keeps_tables (kind.Move b mem n l) = false
+keeps_tables (kind.Reap g) = false
+keeps_tables _ = true
+
+-- so does each kind that is none of these
+pub keeps_else : (k : Kind)
+    → ((b : BufId) → k ≡ kind.New b → ⊥)
+    → ((b : BufId) (g : ℕ) → k ≡ kind.Free b g → ⊥)
+    → ((b : BufId) (page frame : ℕ) → k ≡ kind.Populate b page frame → ⊥)
+    → ((b : BufId) (page slot frame : ℕ) → k ≡ kind.SwapIn b page slot frame → ⊥)
+    → ((b : BufId) → k ≡ kind.Depopulate b → ⊥)
+    → ((b : BufId) (mem : Mem) (n : ℕ) (l : Left) → k ≡ kind.Move b mem n l → ⊥)
+    → ((b : BufId) (page slot : ℕ) → k ≡ kind.SwapOut b page slot → ⊥)
+    → ((g : ℕ) → k ≡ kind.Reap g → ⊥) → keeps_tables k ≡ true
+keeps_else (kind.New b) new free populate swap_in depopulate move swap_out reap = absurd (new b refl)
+keeps_else (kind.Free b g) new free populate swap_in depopulate move swap_out reap = absurd (free b g refl)
+keeps_else (kind.Populate b page frame) new free populate swap_in depopulate move swap_out reap = absurd (populate b page frame refl)
+keeps_else (kind.SwapIn b page slot frame) new free populate swap_in depopulate move swap_out reap = absurd (swap_in b page slot frame refl)
+keeps_else (kind.Depopulate b) new free populate swap_in depopulate move swap_out reap = absurd (depopulate b refl)
+keeps_else (kind.Move b mem n l) new free populate swap_in depopulate move swap_out reap = absurd (move b mem n l refl)
+keeps_else (kind.SwapOut b page slot) new free populate swap_in depopulate move swap_out reap = absurd (swap_out b page slot refl)
+keeps_else (kind.Reap g) new free populate swap_in depopulate move swap_out reap = absurd (reap g refl)
+keeps_else k new free populate swap_in depopulate move swap_out reap = refl
 
 -- the page tables of declared buffers
 abbrev pub tables : List (Option Buffer) → List (Option (List Loc))

@@ -1,3 +1,4 @@
+pub mod GivenLaws
 pub mod KeepLaws
 pub mod TradeLaws
 pub mod ReplayLaws

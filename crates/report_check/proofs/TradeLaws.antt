@@ -87,7 +87,7 @@ buffers_traded w (slot ∷ buffers) (suc i) x y gone come there t =
     traded_behind (weigh w slot) (summed (weigh w) buffers) gone come (summed (weigh w) (slice_set buffers i (Some y))) (buffers_traded w buffers i x y gone come there t)
 
 -- a live buffer is among them
-live_slot : (found : Option (Option Buffer)) (x : Buffer) → option_and_then (λ y. y) found ≡ Some x → found ≡ Some (Some x)
+pub live_slot : (found : Option (Option Buffer)) (x : Buffer) → option_and_then (λ y. y) found ≡ Some x → found ≡ Some (Some x)
 live_slot None x h = cc
 live_slot (Some slot) x h = ap (λ s. Some s) h
 
@@ -121,7 +121,7 @@ not_both : (p q : Bool) → (not p && q) ≡ true → (p ≡ false) × (q ≡ tr
 not_both true q h = cc
 not_both false q h = (refl, h)
 
-times_once : (ns : List ℕ) → are_distinct ns ≡ true → (n : ℕ) → times n ns ≤ 1
+pub times_once : (ns : List ℕ) → are_distinct ns ≡ true → (n : ℕ) → times n ns ≤ 1
 times_once [] h n = omega arith
 times_once (m ∷ ns) h n =
     let parts = not_both (has_number ns m) (are_distinct ns) h in
@@ -140,7 +140,7 @@ length-put on free None = refl
 length-put on free (Some k) = length-set free k on
 
 -- what is free of a number that is held once at most: it was given back, or not taken
-unheld_is : (w w' gone come : ℕ) → w ≤ 1 → Traded w gone come w' → cond (nat_lt 0 come) false (cond (nat_lt 0 gone) true (not (nat_lt 0 w))) ≡ not (nat_lt 0 w')
+pub unheld_is : (w w' gone come : ℕ) → w ≤ 1 → Traded w gone come w' → cond (nat_lt 0 come) false (cond (nat_lt 0 gone) true (not (nat_lt 0 w))) ≡ not (nat_lt 0 w')
 unheld_is w w' gone (suc come) once t =
     let after = t.after in
     ap (λ q. cond q false (cond (nat_lt 0 gone) true (not (nat_lt 0 w)))) (lt-ltb 0 (suc come) (omega arith)) ∙ sym (ap not (lt-ltb 0 w' (omega (arith, after))))
@@ -170,6 +170,15 @@ unheld_traded size old new free f l m distinct traded u = record {
       ∙ sym (ap not (has_times new n));
 }
 
+-- by number in place of by weight
+pub counted : (r : Room) (n : ℕ) (c d : Core) (gone come : ℕ) → Traded (weight r n c) gone come (weight r n d) → Traded (times n (held r c)) gone come (times n (held r d))
+counted r n c d gone come t =
+    let old = times-held r n c in
+    let new = times-held r n d in
+    let before = t.before in
+    let after = t.after in
+    record { rest = t.rest; before = omega (arith, old, before); after = omega (arith, new, after) }
+
 -- the live buffer that has the page
 page_there : (found : Option Buffer) (page : ℕ) (l : Loc) → option_and_then (λ x. slice_get x.table page) found ≡ Some l → (x : Buffer) × (found ≡ Some x) × (slice_get x.table page ≡ Some l)
 page_there None page l h = cc
@@ -194,7 +203,3 @@ free_traded script s b page l m free given new owner there fg sg fn sn are =
           (unheld_traded script.sizes.swap (held_slots s.core) (held_slots after) free.slots slot_of l m owner.slots.distinct
           (λ n. counted slots n s.core after (in_loc slot_of n l) (in_loc slot_of n m) (by_slots n)) are.slots);
     }
-  where
-    counted : (r : Room) (n : ℕ) (c d : Core) (gone come : ℕ) → Traded (weight r n c) gone come (weight r n d) → Traded (times n (held r c)) gone come (times n (held r d))
-    counted r n c d gone come t = let old = times-held r n c in let new = times-held r n d in let before = t.before in let after = t.after in
-        record { rest = t.rest; before = omega (arith, old, before); after = omega (arith, new, after) }

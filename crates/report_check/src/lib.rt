@@ -1,6 +1,7 @@
 //! Whether a report is right: whether its journal is a legal, complete one of the script, and what follows it the rest of its report.
 #![tactic(auto)]
 
+mod given;
 mod judge;
 mod kept;
 mod parts;

@@ -1,6 +1,6 @@
 use Rattle.std.proofs.Common.{sym, ◌∙◌}
 use Rattle.report_check.proofs.TradeLaws.{free_traded}
-use Rattle.report_check.proofs.kept.free_behind.Goals as goal
+use Rattle.report_check.proofs.kept.free_after_page.Goals as goal
 
 pub returns : goal.returns
 returns c script owner are =
