@@ -63,8 +63,8 @@ impl FreeNumbers {
         Some(number as u32)
     }
 
-    /// Makes `number` one that is held. A number past the length stays that.
-    pub fn take(&mut self, number: u32)
+    /// Makes `number` one that is held. A number past the length changes nothing.
+    fn take(&mut self, number: u32)
         ensures { self.new ≡ slice_set self.old number false }
     {
         let at = number as usize;
@@ -73,7 +73,7 @@ impl FreeNumbers {
         }
     }
 
-    /// Makes `number` free. A number past the length stays that.
+    /// Makes `number` free. A number past the length changes nothing.
     pub fn give(&mut self, number: u32)
         ensures { self.new ≡ slice_set self.old number true }
     {
