@@ -157,6 +157,17 @@ def swap_past(size):
     return script
 
 
+@load(24)
+def swap_beside(size):
+    """swap between two buffers of 1,024 pages, beside SIZE of 4,096 pages that have no frame"""
+    script = Script(frames=1024, swap=2048)
+    script.first = each(script.declare(numbered("z", size), 4096, "sys"), "new *")
+    names = script.declare(["a", "b"], 1024, "sys")
+    script.first += each(names, "new *")
+    script.threads = [around(names, 6, "write * 0 55")]
+    return script
+
+
 def regions(size, pages):
     """Regions of so many pages, in the order in which a buddy manager of this size gives its lowest pages: smaller blocks first."""
     for order in range(size.bit_length()):

@@ -1,4 +1,6 @@
-pub mod FillLaws
+pub mod GivenLaws
+pub mod KeepLaws
+pub mod TradeLaws
 pub mod ReplayLaws
 pub mod SpanLaws
 pub mod TailLaws

@@ -19,6 +19,8 @@ use Rattle.journal_model.specs.rules.Stores.{Stores, zeros, within, stores_after
 use Rattle.journal_model.specs.statements.Complete.{is_over, is_complete}
 use Rattle.journal_model.specs.rules.Legal.{World, first_state, first_world, IsLegal, IsLegalFrom, IsLegalNext, state_of, stores_of, world_of, world_after, world_along, shown_step}
 use Rattle.journal_model.specs.reports.Verdict.{unshown, unshown_step, IsStep}
+use Rattle.laws.specs.law_owners.OneOwner.{HaveOneOwner}
+use Rattle.laws.proofs.law_owners.Law.{owner_law}
 use Rattle.laws.proofs.law_state.Shown.{legal_step}
 use Rattle.laws.proofs.law_state.Counted.{over_law}
 use Rattle.rules_search.specs.Room.{HasRoom}
@@ -115,6 +117,10 @@ module _ (script : Script) (journal : List Entry) (at : ℕ) (state : State) (st
 
   pub room : IsHeldSoFar → at < length journal → length journal < 2 ^ 64 → HasRoom script state
   room h less l = has_room script state (length (take at journal)) (known script (take at journal) state stores.sizes (bytes_of stores) h (short_take journal at less l))
+
+  -- no frame and no slot is held twice
+  pub one_owner : IsHeldSoFar → HaveOneOwner script state.core
+  one_owner h = subst (λ (s : State). HaveOneOwner script s.core) (sym h.state_is) (owner_law script (take at journal) h.fits h.legal)
 
   -- a legal entry is that of the journal
   entry_next : IsHeldSoFar → (e : Entry) → IsLegalNext script world e → entry_of (record { script = script; journal = take at journal }) e.who ≡ Ok e

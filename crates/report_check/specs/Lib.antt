@@ -1,2 +1,2 @@
-pub mod Filling
+pub mod Kept
 pub mod Judged

@@ -2,18 +2,18 @@
 
 ghost use Rattle.std.specs.Prelude.{IfOk, IfSome, IsTrue, option_copied};
 ghost use Rattle.journal_model.specs.scripts.ScriptRules.{is_script};
-ghost use Rattle.rules_holds.specs.Marked.{AreFrames};
+ghost use Rattle.rules_holds.specs.Free.{AreFree};
 ghost use Rattle.rules_search.specs.Room.{HasRoom};
 ghost use Rattle.rules_stores.specs.Kept.{bytes_of};
 ghost use Rattle.report_check.specs.Judged.{Differs, IsJudged, Judges};
 
-use crate::filling::{marks_after, marks_for};
+use crate::kept::{free_after, free_before};
 use crate::same::{same_kind, same_step};
 use entry_reader::Rule;
 use journal_model::{Entry, Kind, Script, State};
 use plain_device::enact::enact;
 use rules_apply::first_state;
-use rules_holds::FrameMarks;
+use rules_holds::FreeSets;
 use rules_next::next_with;
 use rules_next::rules_schedule::is_over;
 use rules_stores::PlainStores;
@@ -50,15 +50,15 @@ fn broken_rule(
     alloc: Global,
     script: &Script,
     state: &State,
-    frames: Option<&FrameMarks>,
+    free: Option<&FreeSets>,
     stores: &PlainStores,
     entry: &Entry,
 ) -> Result<Option<Rule>, NoMemory>
     requires room { HasRoom script.now state.now }
-    requires frames { IfSome (option_copied frames) (AreFrames script.now state.now.core) }
+    requires free { IfSome (option_copied free) (AreFree script.now state.now.core) }
     ensures { IfOk result (IsJudged script.now (record { state = state.now; stores = bytes_of stores.now }) entry.now) }
 {
-    match next_with(alloc, script, state, frames, entry.who)? {
+    match next_with(alloc, script, state, free, entry.who)? {
         Ok(kind) => {
             let made = stores.showing(alloc, script, state, entry.who, kind)?;
             Ok(rule_between(&made, &entry.kind))
@@ -81,12 +81,12 @@ pub fn check(alloc: Global, script: &Script, journal: &[Entry]) -> Result<Verdic
     let mut stores = PlainStores::new(alloc, script.sizes)?;
     let mut kept = None;
     for (at, entry) in journal.iter().enumerate() {
-        let frames = marks_for(alloc, script, &state, kept, entry)?;
-        if let Some(rule) = broken_rule(alloc, script, &state, frames.as_ref(), &stores, entry)? {
+        let free = free_before(alloc, script, &state, kept, entry)?;
+        if let Some(rule) = broken_rule(alloc, script, &state, free.as_ref(), &stores, entry)? {
             let entry = at as u64 + 1;
             return Ok(Verdict::Bad { entry, rule });
         }
-        kept = marks_after(&state, frames, entry);
+        kept = free_after(&state, free, entry);
         enact(alloc, script, &mut state, &mut stores, entry)?;
     }
     if is_over(script, &state) {

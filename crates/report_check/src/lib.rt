@@ -1,8 +1,9 @@
 //! Whether a report is right: whether its journal is a legal, complete one of the script, and what follows it the rest of its report.
 #![tactic(auto)]
 
-mod filling;
+mod given;
 mod judge;
+mod kept;
 mod parts;
 mod same;
 mod tail;

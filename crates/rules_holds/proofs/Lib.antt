@@ -3,6 +3,7 @@ pub mod HeldLaws
 pub mod LeastJobs
 pub mod OpenJobs
 pub mod MarkLaws
+pub mod FreeLaws
 pub mod CountLaws
 pub mod RunJobs
 pub mod BeforeLaws

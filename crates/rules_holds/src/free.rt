@@ -4,12 +4,11 @@ ghost use Rattle.ttm_base.specs.ListWords.{count_from};
 ghost use Rattle.journal_model.specs.rules.Holds as words;
 ghost use Rattle.journal_model.specs.rules.Places as places;
 ghost use Rattle.rules_holds.specs.Held.{frames_of_slot, slots_of_slot};
-ghost use Rattle.rules_holds.specs.Marked.{AreFrames, AreMarked};
+ghost use Rattle.rules_holds.specs.Marked.{AreMarked};
 
 use journal_model::{Buffer, Core, Ghost, Script};
 use rules_state::{frame_of, slot_of};
 use std::alloc::Global;
-use std::marker::Model;
 use ttm_base::{Loc, NoMemory};
 
 /// The number of marks that are looked at at once.
@@ -112,8 +111,23 @@ fn mark_ghost_frames(marks: &mut Vec<bool>, ghosts: &[Ghost])
     }
 }
 
+/// Returns marks for the frames, set where a frame is held.
+pub(super) fn frame_marks(
+    alloc: Global,
+    script: &Script,
+    core: &Core,
+) -> Result<Vec<bool>, NoMemory>
+    ensures small { IfOk result (λ marks. length marks.items < 2 ^ 32) }
+    ensures marked { IfOk result (λ marks. AreMarked (replicate script.now.sizes.frames false) (words.held_frames core.now) marks.items) }
+{
+    let mut marks = unmarked(alloc, script.sizes.frames)?;
+    mark_live_frames(&mut marks, core.buffers.items());
+    mark_ghost_frames(&mut marks, core.ghosts.items());
+    Ok(marks)
+}
+
 /// Returns marks for the swap slots, set where a slot is held.
-fn slot_marks(alloc: Global, script: &Script, core: &Core) -> Result<Vec<bool>, NoMemory>
+pub(super) fn slot_marks(alloc: Global, script: &Script, core: &Core) -> Result<Vec<bool>, NoMemory>
     ensures small { IfOk result (λ marks. length marks.items < 2 ^ 32) }
     ensures marked { IfOk result (λ marks. AreMarked (replicate script.now.sizes.swap false) (words.held_slots core.now) marks.items) }
 {
@@ -173,54 +187,12 @@ fn count_unmarked(marks: &[bool]) -> u64
     count
 }
 
-/// A mark for each frame, which is set where the frame is held.
-#[derive(Drop)]
-pub struct FrameMarks {
-    marks: Vec<bool>,
-}
-
-impl Model for FrameMarks {
-    ghost use Rattle.std.specs.Prelude.{◌<◌, ◌^◌, Bool, List, length};
-
-    ghost Value = { List Bool };
-
-    ghost view = { λ f. f.marks.items };
-
-    ghost invariant = { λ f. length f.marks.items < 2 ^ 32 };
-}
-
-impl FrameMarks {
-    /// Marks the held frames of a state. It goes over each page table.
-    pub fn new(alloc: Global, script: &Script, core: &Core) -> Result<FrameMarks, NoMemory>
-        ensures { IfOk result (AreFrames script.now core.now) }
-    {
-        let mut marks = unmarked(alloc, script.sizes.frames)?;
-        mark_live_frames(&mut marks, core.buffers.items());
-        mark_ghost_frames(&mut marks, core.ghosts.items());
-        Ok(FrameMarks { marks })
-    }
-
-    /// Returns the lowest free frame, or `None` if no frame is free.
-    pub fn lowest(&self) -> Option<u32>
-        ensures { (script : Script) (core : Core) → AreFrames script core self.now → result ≡ words.free_frame script core }
-    {
-        lowest_unmarked(&self.marks)
-    }
-
-    /// Sets the mark of `frame`.
-    pub fn mark(&mut self, frame: u32)
-        ensures { AreMarked self.old (frame ∷ []) self.new }
-    {
-        mark(&mut self.marks, frame);
-    }
-}
-
 /// Returns the lowest free frame, or `None` if no frame is free.
 pub fn free_frame(alloc: Global, script: &Script, core: &Core) -> Result<Option<u32>, NoMemory>
     ensures { IfOk result (λ frame. frame ≡ words.free_frame script.now core.now) }
 {
-    let marks = FrameMarks::new(alloc, script, core)?;
-    Ok(marks.lowest())
+    let marks = frame_marks(alloc, script, core)?;
+    Ok(lowest_unmarked(&marks))
 }
 
 /// Returns the lowest free swap slot, or `None` if no slot is free.
@@ -235,8 +207,8 @@ pub fn free_slot(alloc: Global, script: &Script, core: &Core) -> Result<Option<u
 pub fn count_free_frames(alloc: Global, script: &Script, core: &Core) -> Result<u64, NoMemory>
     ensures { IfOk result (λ count. count ≡ count_free (words.held_frames core.now) script.now.sizes.frames) }
 {
-    let frames = FrameMarks::new(alloc, script, core)?;
-    Ok(count_unmarked(&frames.marks))
+    let marks = frame_marks(alloc, script, core)?;
+    Ok(count_unmarked(&marks))
 }
 
 /// Counts the free swap slots.

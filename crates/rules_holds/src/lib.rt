@@ -3,12 +3,14 @@
 #![tactic(auto)]
 
 mod free;
+mod free_sets;
 mod holds;
 mod least;
 mod packets;
 mod waits;
 
-pub use free::{FrameMarks, count_free_frames, count_free_slots, free_frame, free_slot};
+pub use free::{count_free_frames, count_free_slots, free_frame, free_slot};
+pub use free_sets::{FreeNumbers, FreeSets};
 pub use holds::{ghost_spans, has_page, held_spans, is_free_beside, spans_in};
 pub use packets::packets_of;
 pub use state_words::{is_written, use_of};

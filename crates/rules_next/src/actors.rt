@@ -6,12 +6,12 @@ ghost use Rattle.journal_model.specs.rules.State.{buffer};
 ghost use Rattle.journal_model.specs.rules.Waits.{waited_for, jobs_before_read};
 ghost use Rattle.journal_model.specs.rules.PageSteps.{unless_waiting};
 ghost use Rattle.journal_model.specs.rules.Next as words;
-ghost use Rattle.rules_holds.specs.Marked.{AreFrames};
+ghost use Rattle.rules_holds.specs.Free.{AreFree};
 ghost use Rattle.rules_search.specs.Room.{HasRoom};
 
 use crate::tasks::task_of_command;
 use journal_model::{Bytes, Command, Course, Job, Kind, Script, Shown, State, Task};
-use rules_holds::{FrameMarks, is_idle, waited_before_read, waited_for};
+use rules_holds::{FreeSets, is_idle, waited_before_read, waited_for};
 use rules_search::{
     Step, Swap, next_ghost, next_job, once_idle, step_of_empty, step_of_fill, step_of_give_back,
     step_of_move, step_of_place_search, swap_out, unless_waiting,
@@ -108,11 +108,18 @@ fn step_of_free(alloc: Global, script: &Script, state: &State, b: BufId) -> Step
 }
 
 /// Swaps out a page of buffer `b`, or answers the command.
-fn step_of_swap(alloc: Global, script: &Script, state: &State, b: BufId) -> Result<Step, NoMemory>
-    requires { HasRoom script.now state.now }
+fn step_of_swap(
+    alloc: Global,
+    script: &Script,
+    state: &State,
+    free: Option<&FreeSets>,
+    b: BufId,
+) -> Result<Step, NoMemory>
+    requires room { HasRoom script.now state.now }
+    requires free { IfSome (option_copied free) (AreFree script.now state.now.core) }
     ensures { IfOk result (λ step. step ≡ words.step_of_act script.now state.now (command.SwapOut b)) }
 {
-    match swap_out(alloc, script, state, b)? {
+    match swap_out(alloc, script, state, free, b)? {
         Swap::NoFrame => Ok(plain()),
         Swap::NoSlot => Ok(Ok(Kind::Refused { deny: Deny::NoSwap })),
         Swap::Page(step) => Ok(step),
@@ -148,9 +155,11 @@ fn step_of_act(
     alloc: Global,
     script: &Script,
     state: &State,
+    free: Option<&FreeSets>,
     command: &Command,
 ) -> Result<Step, NoMemory>
-    requires { HasRoom script.now state.now }
+    requires room { HasRoom script.now state.now }
+    requires free { IfSome (option_copied free) (AreFree script.now state.now.core) }
     ensures { IfOk result (λ step. step ≡ words.step_of_act script.now state.now command.now) }
 {
     match command {
@@ -159,7 +168,7 @@ fn step_of_act(
             num: next_job(state, *engine),
         })),
         Command::Free { b } => Ok(step_of_free(alloc, script, state, *b)),
-        Command::SwapOut { b } => step_of_swap(alloc, script, state, *b),
+        Command::SwapOut { b } => step_of_swap(alloc, script, state, free, *b),
         Command::Write { b, .. } => {
             let shown = Shown::Plain;
             Ok(once_idle(alloc, &state.core, *b, Kind::Result { shown }))
@@ -175,13 +184,13 @@ fn step_of_task(
     alloc: Global,
     script: &Script,
     state: &State,
-    frames: Option<&FrameMarks>,
+    free: Option<&FreeSets>,
     course: &Course,
     command: &Command,
     task: Task,
 ) -> Result<Step, NoMemory>
     requires room { HasRoom script.now state.now }
-    requires frames { IfSome (option_copied frames) (AreFrames script.now state.now.core) }
+    requires free { IfSome (option_copied free) (AreFree script.now state.now.core) }
     ensures { IfOk result (λ step. step ≡ words.step_of_task script.now state.now course.now command.now task) }
 {
     match task {
@@ -196,12 +205,12 @@ fn step_of_task(
         Task::Bind(b) => Ok(Ok(Kind::Bind { b })),
         Task::Unbind(b) => Ok(once_idle(alloc, &state.core, b, Kind::Unbind { b })),
         Task::Move { b, mem } => Ok(step_of_move(script, state, course, b, mem)),
-        Task::Fill(b) => step_of_fill(alloc, script, state, frames, b),
-        Task::Empty(b) => step_of_empty(alloc, script, state, course, b),
+        Task::Fill(b) => step_of_fill(alloc, script, state, free, b),
+        Task::Empty(b) => step_of_empty(alloc, script, state, free, course, b),
         Task::GiveBack(b) => Ok(step_of_give_back(alloc, state, b)),
         Task::Skip(b) => Ok(Ok(Kind::Skip { b })),
         Task::GiveUp(deny) | Task::Refuse(deny) => Ok(Ok(Kind::Refused { deny })),
-        Task::Act => step_of_act(alloc, script, state, command),
+        Task::Act => step_of_act(alloc, script, state, free, command),
     }
 }
 
@@ -210,11 +219,11 @@ fn step_of_thread(
     alloc: Global,
     script: &Script,
     state: &State,
-    frames: Option<&FrameMarks>,
+    free: Option<&FreeSets>,
     thread: u32,
 ) -> Result<Step, NoMemory>
     requires room { HasRoom script.now state.now }
-    requires frames { IfSome (option_copied frames) (AreFrames script.now state.now.core) }
+    requires free { IfSome (option_copied free) (AreFree script.now state.now.core) }
     ensures { IfOk result (λ step. step ≡ words.step_of_thread script.now state.now thread) }
 {
     match (
@@ -223,7 +232,7 @@ fn step_of_thread(
     ) {
         (Some(course), Some(command)) => {
             let task = task_of_command(alloc, script, state, course, command)?;
-            step_of_task(alloc, script, state, frames, course, command, task)
+            step_of_task(alloc, script, state, free, course, command, task)
         }
         _ => Ok(Err(Need::NoCommand)),
     }
@@ -283,8 +292,8 @@ fn step_of_reaper(state: &State) -> Step
     }
 }
 
-/// Returns the entry that `who` makes next, or what it needs first. The bytes that a read or a probe shows are left empty. `frames` are
-/// marks for the frames that are held in `state`; without them, a step that takes a frame marks these frames again.
+/// Returns the entry that `who` makes next, or what it needs first. The bytes that a read or a probe shows are left empty. `free` is what
+/// is free in `state`; without it, a step that takes a frame or a swap slot finds that anew.
 ///
 /// # Errors
 ///
@@ -293,21 +302,21 @@ pub fn next_with(
     alloc: Global,
     script: &Script,
     state: &State,
-    frames: Option<&FrameMarks>,
+    free: Option<&FreeSets>,
     who: Actor,
 ) -> Result<Step, NoMemory>
     requires room { HasRoom script.now state.now }
-    requires frames { IfSome (option_copied frames) (AreFrames script.now state.now.core) }
+    requires free { IfSome (option_copied free) (AreFree script.now state.now.core) }
     ensures { IfOk result (λ step. step ≡ words.next script.now state.now who) }
 {
     match who {
-        Actor::Thread(thread) => step_of_thread(alloc, script, state, frames, thread),
+        Actor::Thread(thread) => step_of_thread(alloc, script, state, free, thread),
         Actor::Engine(engine) => Ok(step_of_engine(alloc, state, engine)),
         Actor::Reaper => Ok(step_of_reaper(state)),
     }
 }
 
-/// Returns the entry that `who` makes next, or what it needs first. A step that takes a frame marks the frames that are held.
+/// Returns the entry that `who` makes next, or what it needs first. A step that takes a frame or a swap slot finds what is free.
 ///
 /// # Errors
 ///

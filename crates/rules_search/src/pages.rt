@@ -4,14 +4,14 @@ ghost use Rattle.journal_model.specs.rules.Places.{is_frame, loc_of};
 ghost use Rattle.journal_model.specs.rules.Dry.{has_frame};
 ghost use Rattle.journal_model.specs.rules.Holds as holds;
 ghost use Rattle.journal_model.specs.rules.PageSteps as words;
-ghost use Rattle.rules_holds.specs.Marked.{AreFrames};
+ghost use Rattle.rules_holds.specs.Free.{AreFree};
 ghost use Rattle.rules_search.specs.Room.{HasRoom};
 ghost use Rattle.rules_search.specs.Swaps.{IsSwap};
 
 use crate::Step;
 use crate::dry::{ghost_with_frame, has_frame, swap_victim};
 use journal_model::{Buffer, Core, Course, Kind, Left, Script, State, Victim, Why};
-use rules_holds::{FrameMarks, free_frame, free_slot, waited_before_write};
+use rules_holds::{FreeSets, free_frame, free_slot, waited_before_write};
 use rules_state::{buffer_in, dead_buffer, has_target, is_caught, is_frame, loc_of, same_buffer};
 use std::alloc::Global;
 use ttm_base::{BufId, JobId, Loc, Mem, Need, NoMemory};
@@ -54,17 +54,51 @@ fn page_to_fill(buffer: &Buffer) -> u32
     }
 }
 
+/// Returns the lowest free frame, by `free` where it is given, or `None` if no frame is free.
+fn frame_to_give(
+    alloc: Global,
+    script: &Script,
+    core: &Core,
+    free: Option<&FreeSets>,
+) -> Result<Option<u32>, NoMemory>
+    requires { IfSome (option_copied free) (AreFree script.now core.now) }
+    ensures { IfOk result (λ frame. frame ≡ holds.free_frame script.now core.now) }
+{
+    match free {
+        Some(free) => Ok(free.frames.lowest()),
+        None => free_frame(alloc, script, core),
+    }
+}
+
+/// Returns the lowest free swap slot, by `free` where it is given, or `None` if no slot is free.
+fn slot_to_give(
+    alloc: Global,
+    script: &Script,
+    core: &Core,
+    free: Option<&FreeSets>,
+) -> Result<Option<u32>, NoMemory>
+    requires { IfSome (option_copied free) (AreFree script.now core.now) }
+    ensures { IfOk result (λ slot. slot ≡ holds.free_slot script.now core.now) }
+{
+    match free {
+        Some(free) => Ok(free.slots.lowest()),
+        None => free_slot(alloc, script, core),
+    }
+}
+
 /// Returns the step of a buffer for which no frame is free: it catches a victim for swap, where a slot is free; else a ghost will give a
 /// frame, or there is none.
 fn step_without_frame(
     alloc: Global,
     script: &Script,
     state: &State,
+    free: Option<&FreeSets>,
     b: BufId,
 ) -> Result<Step, NoMemory>
+    requires { IfSome (option_copied free) (AreFree script.now state.now.core) }
     ensures { IfOk result (λ step. step ≡ words.step_without_frame script.now state.now b) }
 {
-    if free_slot(alloc, script, &state.core)?.is_some() {
+    if slot_to_give(alloc, script, &state.core, free)?.is_some() {
         if let Some(v) = swap_victim(alloc, state)? {
             return Ok(Ok(Kind::Catch {
                 b: v,
@@ -97,38 +131,22 @@ fn filled_with(alloc: Global, core: &Core, b: BufId, frame: u32) -> Kind
     }
 }
 
-/// Returns the lowest free frame, by `frames`, its marks, where there are some, or `None` if no frame is free.
-fn frame_to_give(
-    alloc: Global,
-    script: &Script,
-    core: &Core,
-    frames: Option<&FrameMarks>,
-) -> Result<Option<u32>, NoMemory>
-    requires { IfSome (option_copied frames) (AreFrames script.now core.now) }
-    ensures { IfOk result (λ frame. frame ≡ holds.free_frame script.now core.now) }
-{
-    match frames {
-        Some(marks) => Ok(marks.lowest()),
-        None => free_frame(alloc, script, core),
-    }
-}
-
-/// Gives the next page the lowest free frame, or without one catches a victim for swap. The frames that are held are marked again where no
-/// marks are given.
+/// Gives the next page the lowest free frame, or without one catches a victim for swap. `free` is what is free in `state`; without it that
+/// is found anew.
 pub fn step_of_fill(
     alloc: Global,
     script: &Script,
     state: &State,
-    frames: Option<&FrameMarks>,
+    free: Option<&FreeSets>,
     b: BufId,
 ) -> Result<Step, NoMemory>
     requires room { HasRoom script.now state.now }
-    requires frames { IfSome (option_copied frames) (AreFrames script.now state.now.core) }
+    requires free { IfSome (option_copied free) (AreFree script.now state.now.core) }
     ensures { IfOk result (λ step. step ≡ words.step_of_fill script.now state.now b) }
 {
-    match frame_to_give(alloc, script, &state.core, frames)? {
+    match frame_to_give(alloc, script, &state.core, free)? {
         Some(frame) => Ok(Ok(filled_with(alloc, &state.core, b, frame))),
-        None => step_without_frame(alloc, script, state, b),
+        None => step_without_frame(alloc, script, state, free, b),
     }
 }
 
@@ -173,15 +191,23 @@ fn page_to_swap(alloc: Global, core: &Core, b: BufId) -> Option<u32>
     }
 }
 
-/// Swaps out the next page of buffer `b`, if it has a frame and a slot is free.
-pub fn swap_out(alloc: Global, script: &Script, state: &State, b: BufId) -> Result<Swap, NoMemory>
-    requires { HasRoom script.now state.now }
+/// Swaps out the next page of buffer `b`, if it has a frame and a slot is free. `free` is what is free in `state`; without it that is found
+/// anew.
+pub fn swap_out(
+    alloc: Global,
+    script: &Script,
+    state: &State,
+    free: Option<&FreeSets>,
+    b: BufId,
+) -> Result<Swap, NoMemory>
+    requires room { HasRoom script.now state.now }
+    requires free { IfSome (option_copied free) (AreFree script.now state.now.core) }
     ensures { IfOk result (IsSwap script.now state.now b) }
 {
     let Some(page) = page_to_swap(alloc, &state.core, b) else {
         return Ok(Swap::NoFrame);
     };
-    match free_slot(alloc, script, &state.core)? {
+    match slot_to_give(alloc, script, &state.core, free)? {
         None => Ok(Swap::NoSlot),
         Some(slot) => {
             let kind = Kind::SwapOut { b, page, slot };
@@ -207,19 +233,21 @@ fn why_caught(course: &Course, b: BufId) -> Option<Why>
     }
 }
 
-/// Empties the victim `b` as far as can be, and lets it go.
+/// Empties the victim `b` as far as can be, and lets it go. `free` is what is free in `state`; without it that is found anew.
 pub fn step_of_empty(
     alloc: Global,
     script: &Script,
     state: &State,
+    free: Option<&FreeSets>,
     course: &Course,
     b: BufId,
 ) -> Result<Step, NoMemory>
-    requires { HasRoom script.now state.now }
+    requires room { HasRoom script.now state.now }
+    requires free { IfSome (option_copied free) (AreFree script.now state.now.core) }
     ensures { IfOk result (λ step. step ≡ words.step_of_empty script.now state.now course.now b) }
 {
     match why_caught(course, b) {
-        Some(Why::Swap) => match swap_out(alloc, script, state, b)? {
+        Some(Why::Swap) => match swap_out(alloc, script, state, free, b)? {
             Swap::Page(step) => Ok(step),
             Swap::NoFrame | Swap::NoSlot => Ok(Ok(Kind::Loose { b })),
         },

@@ -3,12 +3,12 @@ use Rattle.std.specs.Prelude.{IfSome, slice_get, take}
 use Rattle.std.proofs.lemmas.Option.{slice_get_read}
 use Rattle.laws.proofs.law_state.Rules.{rules_of}
 use Rattle.journal_model.specs.rules.Legal.{World}
-use Rattle.rules_holds.specs.Marked.{AreFrames}
+use Rattle.rules_holds.specs.Free.{AreFree}
 use Rattle.rules_stores.specs.Kept.{bytes_of}
 use Rattle.plain_device.specs.Held.{IsHeld}
 use Rattle.plain_device.proofs.EnactLaws.{can_store}
 use Rattle.report_check.specs.Judged.{IsJudged}
-use Rattle.report_check.proofs.ReplayLaws.{room, ready, held_next, bad_at, held_first, legal_to}
+use Rattle.report_check.proofs.ReplayLaws.{room, ready, one_owner, held_next, bad_at, held_first, legal_to}
 use Rattle.report_check.proofs.judge.check.Goals as goal
 
 pub loop-at-init : goal.loop-at-init
@@ -17,8 +17,8 @@ loop-at-init c = record {
   kept = tt;
 }
 
-pub marks_for-requires : goal.marks_for-requires
-marks_for-requires c = c.loop-at.invariant.kept
+pub free_before-requires : goal.free_before-requires
+free_before-requires c = c.loop-at.invariant.kept
 
 pub broken_rule-requires-clause-room : goal.broken_rule-requires-clause-room
 broken_rule-requires-clause-room c =
@@ -26,8 +26,8 @@ broken_rule-requires-clause-room c =
     let most : length c.args.journal.now < 2 ^ 64 = omega arith in
     room c.args.script.now c.args.journal.now c.loop-at.at c.loop-at.state c.loop-at.stores c.loop-at.invariant.held less most
 
-pub broken_rule-requires-clause-frames : goal.broken_rule-requires-clause-frames
-broken_rule-requires-clause-frames c = subst (λ o. IfSome o (AreFrames c.args.script.now c.loop-at.state.core)) (sym c.as_ref.ensures.value) c.in_ok-frames.ensures
+pub broken_rule-requires-clause-free : goal.broken_rule-requires-clause-free
+broken_rule-requires-clause-free c = subst (λ o. IfSome o (AreFree c.args.script.now c.loop-at.state.core)) (sym c.as_ref.ensures.value) c.in_ok-free.ensures
 
 pub returns-in-Some : goal.returns-in-Some
 returns-in-Some c =
@@ -56,13 +56,14 @@ loop-at-preserved c =
     let e = c.index-journal-at.result in
     let w : World = record { state = c.loop-at.state; stores = bytes_of c.loop-at.stores } in
     let there : slice_get c.args.journal.now c.loop-at.at ≡ Some e = slice_get_read c.args.journal.now (length c.args.journal.now) c.loop-at.at e refl less c.index-journal-at.is in
+    let owner = one_owner c.args.script.now c.args.journal.now c.loop-at.at c.loop-at.state c.loop-at.stores c.loop-at.invariant.held in
     record {
       held =
           held_next c.args.script.now c.args.journal.now c.loop-at.at c.loop-at.state c.loop-at.stores c.loop-at.invariant.held e c.enact.new.state c.enact.new.stores there
           (subst (IsJudged c.args.script.now w e) c.in_default.is c.in_ok-rule.ensures) c.in_ok-enact.ensures.state c.in_ok-enact.ensures.bytes;
       kept =
-          subst (λ s. IfSome c.marks_after-kept.result (AreFrames c.args.script.now s.core)) (sym c.in_ok-enact.ensures.state)
-          (c.marks_after-kept.ensures c.args.script.now c.in_ok-frames.ensures);
+          subst (λ s. IfSome c.free_after-kept.result (AreFree c.args.script.now s.core)) (sym c.in_ok-enact.ensures.state)
+          (c.free_after-kept.ensures c.args.script.now owner c.in_ok-free.ensures);
     }
 
 pub returns-then-is_over : goal.returns-then-is_over

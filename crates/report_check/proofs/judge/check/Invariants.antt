@@ -1,12 +1,12 @@
 use Rattle.std.specs.Prelude.{IfSome, take}
-use Rattle.rules_holds.specs.Marked.{AreFrames}
+use Rattle.rules_holds.specs.Free.{AreFree}
 use Rattle.rules_stores.specs.Kept.{bytes_of}
 use Rattle.plain_device.specs.Held.{IsHeld}
 use Rattle.report_check.proofs.judge.check.Given as goal
 
--- state and bytes are those of the entries so far, which are legal; marks that are kept are the state's
+-- state and bytes are those of the entries so far, which are legal; what is kept as free is free in the state
 abbrev pub invariant-loop-at : goal.invariant-loop-at
 invariant-loop-at l = record {
   held : IsHeld l.script (take l.at l.journal) l.state l.stores.sizes (bytes_of l.stores);
-  kept : IfSome l.kept (AreFrames l.script l.state.core);
+  kept : IfSome l.kept (AreFree l.script l.state.core);
 }

@@ -1,4 +1,9 @@
+use Rattle.std.proofs.Common.{◌∙◌}
+use Rattle.journal_model.specs.rules.Holds.{held_frames}
+use Rattle.rules_holds.proofs.MarkLaws.{lowest_of}
 use Rattle.rules_holds.proofs.free.free_frame.Goals as goal
 
 pub returns : goal.returns
-returns c = c.lowest.ensures c.args.script.now c.args.core.now c.in_ok-marks.ensures
+returns c =
+    let lowest = lowest_of c.args.script.now.sizes.frames (held_frames c.args.core.now) c.in_ok-marks.marks.items c.in_ok-marks.ensures.marked in
+    (rw c.deref.ensures.value at c.lowest_unmarked.ensures) ∙ lowest

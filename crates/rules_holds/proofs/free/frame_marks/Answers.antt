@@ -6,10 +6,10 @@ use Rattle.rules_holds.specs.Held.{frames_of_slot}
 use Rattle.rules_holds.specs.Marked.{AreMarked}
 use Rattle.rules_holds.proofs.HeldLaws.{live_frames_of}
 use Rattle.rules_holds.proofs.MarkLaws.{marked_then}
-use Rattle.rules_holds.proofs.free.FrameMarks.new.Goals as goal
+use Rattle.rules_holds.proofs.free.frame_marks.Goals as goal
 
-pub returns : goal.returns
-returns c =
+pub returns-clause-marked : goal.returns-clause-marked
+returns-clause-marked c =
     let live = live_frames_of c.args.core.now in
     let held : held_frames c.args.core.now ≡ flat_map frames_of_slot c.items.result.now ++ flat_map (λ g. g.frames) c.items-2.result.now =
     grind (arith, common_steps, live, c.items.ensures, c.items-2.ensures) in
