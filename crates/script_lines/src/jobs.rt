@@ -132,6 +132,7 @@ fn submit_with(engine: EngineWord, ops: OpWords) -> Option<Line>
     }
 }
 
+#[inline(never)]
 pub fn submit(
     alloc: Global,
     names: &Names,
