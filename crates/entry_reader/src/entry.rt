@@ -10,8 +10,8 @@ ghost use Rattle.entry_reader.specs.Read.{IsRead};
 use crate::kinds::kind;
 use crate::numbers::number;
 use journal_model::line::ActorWord;
-use journal_model::{Bytes, Entry, Script};
-use script_words::cut::cut;
+use journal_model::{Entry, Script};
+use script_words::cut::{Word, Words, cut_into};
 use script_words::names::Names;
 use script_words::words::actor;
 use std::alloc::Global;
@@ -46,7 +46,7 @@ fn entry_by_words(
     script: &Script,
     names: &Names,
     n: u64,
-    words: &[Bytes],
+    words: &[Word],
 ) -> Result<Option<Entry>, NoMemory>
     requires few { length names.now ≤ 256 }
     requires threads { length script.now.threads ≤ 16 }
@@ -78,12 +78,13 @@ fn actor_of_script(script: &Script, word: &[u8]) -> ActorWord
     actor(script.threads.len() as u32, script.sizes.engines, word)
 }
 
-fn entry_by_line(
+fn entry_by_line<'a>(
     alloc: Global,
+    words: &mut Words<'a>,
     script: &Script,
     names: &Names,
     n: u64,
-    line: &[u8],
+    line: &'a [u8],
 ) -> Result<Option<Entry>, NoMemory>
     requires few { length names.now ≤ 256 }
     requires threads { length script.now.threads ≤ 16 }
@@ -93,7 +94,7 @@ fn entry_by_line(
     if !does_end(line) {
         return Ok(None);
     }
-    let words = cut(alloc, b' ', front_of(line))?;
+    cut_into(words, b' ', front_of(line))?;
     entry_by_words(alloc, script, names, n, words.items())
 }
 
@@ -123,5 +124,22 @@ pub fn read_entry(
     requires declared { names.now ≡ names_of script.now.buffers }
     ensures { IfOk result (λ entry. IsRead script.now n line.now entry) }
 {
-    entry_by_line(alloc, script, names, n, line)
+    let mut words = Words::new(alloc);
+    read_entry_by(alloc, &mut words, script, names, n, line)
+}
+
+/// Reads entry `n` as `read_entry` does. The list `words` is left with what the line has, and its memory serves the next line.
+pub(crate) fn read_entry_by<'a>(
+    alloc: Global,
+    words: &mut Words<'a>,
+    script: &Script,
+    names: &Names,
+    n: u64,
+    line: &'a [u8],
+) -> Result<Option<Entry>, NoMemory>
+    requires script { is_script script.now ≡ true }
+    requires declared { names.now ≡ names_of script.now.buffers }
+    ensures { IfOk result (λ entry. IsRead script.now n line.now entry) }
+{
+    entry_by_line(alloc, words, script, names, n, line)
 }

@@ -6,6 +6,7 @@ ghost use Rattle.entry_reader.specs.EntryReading.{buffer_kind, dry_kind, find_ki
 use crate::numbers::{number, small_number};
 use crate::parts::{deny, dry_why, engine, left, piece, spans, why};
 use journal_model::{Bytes, Kind, Shown};
+use script_words::cut::Word;
 use script_words::names::Names;
 use script_words::words::{bytes, is, memory};
 use std::alloc::Global;
@@ -314,7 +315,7 @@ fn kind_of_four_words(
 }
 
 /// Returns the kind of an entry with the words `words`, or `None` if they are the words of none.
-pub(crate) fn kind(alloc: Global, names: &Names, words: &[Bytes]) -> Result<Option<Kind>, NoMemory>
+pub(crate) fn kind(alloc: Global, names: &Names, words: &[Word]) -> Result<Option<Kind>, NoMemory>
     requires { length names.now ≤ 256 }
     ensures { IfOk result (λ kind. kind ≡ kind_of names.now words.now) }
 {

@@ -5,7 +5,7 @@ ghost use Rattle.entry_reader.specs.EntryReading.{all_of, cause_of, deny_of, den
 
 use crate::numbers::{number, small_number};
 use journal_model::{Bytes, Cause, CauseRow, Causes, DryWhy, Left, Why};
-use script_words::cut::cut;
+use script_words::cut::{Word, Words, cut, cut_into};
 use script_words::names::Names;
 use script_words::words::{bytes, is};
 use std::alloc::Global;
@@ -101,7 +101,7 @@ fn span_between_pages(start: u32, end: u32) -> Option<Span>
     }
 }
 
-fn span_of_words(words: &[Bytes]) -> Option<Span>
+fn span_of_words(words: &[Word]) -> Option<Span>
     ensures { result ≡ span_parts words.now }
 {
     match words {
@@ -113,19 +113,21 @@ fn span_of_words(words: &[Bytes]) -> Option<Span>
     }
 }
 
-fn span(alloc: Global, word: &[u8]) -> Result<Option<Span>, NoMemory>
+/// Reads a span. The list `words` is left with the parts of the word.
+fn span<'a>(words: &mut Words<'a>, word: &'a [u8]) -> Result<Option<Span>, NoMemory>
     ensures { IfOk result (λ span. span ≡ span_of word.now) }
 {
-    let words = cut(alloc, b'-', word)?;
+    cut_into(words, b'-', word)?;
     Ok(span_of_words(words.items()))
 }
 
-fn spans_of_words(alloc: Global, words: &[Bytes]) -> Result<Option<Spans>, NoMemory>
+fn spans_of_words(alloc: Global, words: &[Word]) -> Result<Option<Spans>, NoMemory>
     ensures { IfOk result (λ spans. spans ≡ all_of span_of words.now) }
 {
+    let mut parts = Words::new(alloc);
     let mut spans = Spans::new(alloc);
     for word in words {
-        match span(alloc, word.items())? {
+        match span(&mut parts, word.items())? {
             Some(span) => spans.push(span)?,
             None => return Ok(None),
         }
@@ -172,7 +174,7 @@ fn reserved(word: &[u8], stamp: &[u8]) -> Option<Cause>
     }
 }
 
-fn row_of_words(names: &Names, words: &[Bytes]) -> Option<CauseRow>
+fn row_of_words(names: &Names, words: &[Word]) -> Option<CauseRow>
     requires { length names.now ≤ 256 }
     ensures { result ≡ row_parts names.now words.now }
 {
@@ -189,21 +191,27 @@ fn row_of_words(names: &Names, words: &[Bytes]) -> Option<CauseRow>
     }
 }
 
-fn row(alloc: Global, names: &Names, word: &[u8]) -> Result<Option<CauseRow>, NoMemory>
+/// Reads a buffer with its cause. The list `words` is left with the parts of the word.
+fn row<'a>(
+    words: &mut Words<'a>,
+    names: &Names,
+    word: &'a [u8],
+) -> Result<Option<CauseRow>, NoMemory>
     requires { length names.now ≤ 256 }
     ensures { IfOk result (λ row. row ≡ row_of names.now word.now) }
 {
-    let words = cut(alloc, b':', word)?;
+    cut_into(words, b':', word)?;
     Ok(row_of_words(names, words.items()))
 }
 
-fn rows_of_words(alloc: Global, names: &Names, words: &[Bytes]) -> Result<Option<Causes>, NoMemory>
+fn rows_of_words(alloc: Global, names: &Names, words: &[Word]) -> Result<Option<Causes>, NoMemory>
     requires { length names.now ≤ 256 }
     ensures { IfOk result (λ rows. rows ≡ all_of (row_of names.now) words.now) }
 {
+    let mut parts = Words::new(alloc);
     let mut rows = Causes::new(alloc);
     for word in words {
-        match row(alloc, names, word.items())? {
+        match row(&mut parts, names, word.items())? {
             Some(row) => rows.push(row)?,
             None => return Ok(None),
         }

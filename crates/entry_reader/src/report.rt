@@ -7,11 +7,11 @@ ghost use Rattle.journal_model.specs.scripts.ScriptRules.{is_script};
 ghost use Rattle.entry_reader.specs.HeadReading.{count_of, numbered_of, numbered_words};
 ghost use Rattle.entry_reader.specs.Parsing.{IsHead, IsHeadRead, IsParsed};
 
-use crate::entry::{does_end, front_of, is_the_number, names_of_script, read_entry};
+use crate::entry::{does_end, front_of, is_the_number, names_of_script, read_entry_by};
 use crate::numbers::number;
 use crate::rule::Rule;
-use journal_model::{Bytes, Entry, Script};
-use script_words::cut::{cut, len_of_line};
+use journal_model::{Entry, Script};
+use script_words::cut::{Word, Words, cut, len_of_line};
 use script_words::names::Names;
 use script_words::words::is;
 use std::alloc::Global;
@@ -75,7 +75,7 @@ fn behind(text: &[u8], place: usize) -> &[u8]
     rest
 }
 
-fn number_behind(keyword: &[u8], words: &[Bytes]) -> Option<u64>
+fn number_behind(keyword: &[u8], words: &[Word]) -> Option<u64>
     ensures { result ≡ numbered_words keyword.now words.now }
 {
     match words {
@@ -145,12 +145,13 @@ fn read_entries(
     requires head { IsHead script.now text.now head.count head.len }
     ensures { IfOk result (λ parsed. IsParsed script.now text.now parsed) }
 {
+    let mut words = Words::new(alloc);
     let mut entries = Entries::new(alloc);
     let mut rest = head.len;
     for n in 0..head.count {
         let after = behind(text, rest);
         let line = first_line_of(after);
-        match read_entry(alloc, script, names, n + 1, line)? {
+        match read_entry_by(alloc, &mut words, script, names, n + 1, line)? {
             Some(entry) => {
                 entries.push(entry)?;
                 rest += line.len();

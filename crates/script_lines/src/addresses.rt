@@ -5,15 +5,15 @@ ghost use Rattle.std.specs.List.{list_any};
 ghost use Rattle.journal_model.specs.scripts.Reading.{address_of, offset_of, byte_in_hex};
 ghost use Rattle.journal_model.specs.scripts.LineWords.{vmap_line, vunmap_line, vop_of, is_no_vop, vop_words_of, vsubmit_of_ops, vsubmit_line};
 
-use journal_model::Bytes;
 use journal_model::line::{EngineWord, Line, VOpWord, VOpWords};
+use script_words::cut::Word;
 use script_words::names::Names;
 use script_words::words::{address, byte, engine, is, is_lone_semicolon, number, offset};
 use std::alloc::Global;
 use ttm_base::NoMemory;
 use ttm_base::limits::MAX_BUFFER_PAGES;
 
-pub fn vmap(names: &Names, words: &[Bytes]) -> Option<Line>
+pub fn vmap(names: &Names, words: &[Word]) -> Option<Line>
     requires { length names.now ≤ 256 }
     ensures { result ≡ vmap_line names.now words.now }
 {
@@ -28,7 +28,7 @@ pub fn vmap(names: &Names, words: &[Bytes]) -> Option<Line>
     }
 }
 
-pub fn vunmap(words: &[Bytes]) -> Option<Line>
+pub fn vunmap(words: &[Word]) -> Option<Line>
     ensures { result ≡ vunmap_line words.now }
 {
     match words {
@@ -80,7 +80,7 @@ fn xor(addr: &[u8], from: &[u8], len: &[u8]) -> VOpWord
 }
 
 /// Returns the operation with addresses that `words` tell.
-fn op(words: &[Bytes]) -> VOpWord
+fn op(words: &[Word]) -> VOpWord
     ensures { result ≡ vop_of words.now }
 {
     match words {
@@ -120,7 +120,7 @@ fn is_some_no_op(ops: &[VOpWord]) -> bool
 }
 
 /// Returns the operations that `words` tell, with a lone semicolon between each two.
-fn ops(alloc: Global, words: &[Bytes]) -> Result<VOpWords, NoMemory>
+fn ops(alloc: Global, words: &[Word]) -> Result<VOpWords, NoMemory>
     ensures { IfOk result (λ ops. ops ≡ vop_words_of words.now) }
 {
     let mut ops = VOpWords::new(alloc);
@@ -145,7 +145,8 @@ fn vsubmit_with(engine: EngineWord, ops: VOpWords) -> Option<Line>
     }
 }
 
-pub fn vsubmit(alloc: Global, engines: u32, words: &[Bytes]) -> Result<Option<Line>, NoMemory>
+#[inline(never)]
+pub fn vsubmit(alloc: Global, engines: u32, words: &[Word]) -> Result<Option<Line>, NoMemory>
     ensures { IfOk result (λ line. line ≡ vsubmit_line engines words.now) }
 {
     match words {

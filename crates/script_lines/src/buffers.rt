@@ -4,8 +4,8 @@ ghost use Rattle.std.specs.Prelude.{◌≡◌, IfOk};
 ghost use Rattle.journal_model.specs.scripts.LineWords.{buffer_head_of, has_head_words, two_lists, list_of_version_two, lists_line, buffer_line_of};
 
 use crate::places::places;
-use journal_model::Bytes;
 use journal_model::line::{BufferHead, Line};
+use script_words::cut::Word;
 use script_words::words::{group, is, number, owned};
 use std::alloc::Global;
 use ttm_base::NoMemory;
@@ -78,7 +78,7 @@ fn with_lists(
     two: bool,
     fits: bool,
     head: BufferHead,
-    words: &[Bytes],
+    words: &[Word],
 ) -> Result<Option<Line>, NoMemory>
     ensures { IfOk result (λ line. line ≡ lists_line two fits head words.now) }
 {
@@ -107,7 +107,8 @@ fn with_lists(
     }
 }
 
-pub fn buffer(alloc: Global, two: bool, words: &[Bytes]) -> Result<Option<Line>, NoMemory>
+#[inline(never)]
+pub fn buffer(alloc: Global, two: bool, words: &[Word]) -> Result<Option<Line>, NoMemory>
     ensures { IfOk result (λ line. line ≡ buffer_line_of two words.now) }
 {
     match words {

@@ -5,8 +5,8 @@ ghost use Rattle.std.specs.List.{list_any};
 ghost use Rattle.journal_model.specs.scripts.Reading.{known, offset_of, byte_in_hex};
 ghost use Rattle.journal_model.specs.scripts.LineWords.{op_of, is_no_op, op_words_of, submit_of_ops, submit_line};
 
-use journal_model::Bytes;
 use journal_model::line::{EngineWord, Line, OpWord, OpWords};
+use script_words::cut::Word;
 use script_words::names::Names;
 use script_words::words::{byte, engine, is, is_lone_semicolon, offset};
 use std::alloc::Global;
@@ -62,7 +62,7 @@ fn xor(names: &Names, d: &[u8], doff: &[u8], s: &[u8], soff: &[u8], len: &[u8]) 
 }
 
 /// Returns the operation that `words` tell.
-fn op(names: &Names, words: &[Bytes]) -> OpWord
+fn op(names: &Names, words: &[Word]) -> OpWord
     requires { length names.now ≤ 256 }
     ensures { result ≡ op_of names.now words.now }
 {
@@ -106,7 +106,7 @@ fn is_some_no_op(ops: &[OpWord]) -> bool
 }
 
 /// Returns the operations that `words` tell, with a lone semicolon between each two.
-fn ops(alloc: Global, names: &Names, words: &[Bytes]) -> Result<OpWords, NoMemory>
+fn ops(alloc: Global, names: &Names, words: &[Word]) -> Result<OpWords, NoMemory>
     requires { length names.now ≤ 256 }
     ensures { IfOk result (λ ops. ops ≡ op_words_of names.now words.now) }
 {
@@ -132,11 +132,12 @@ fn submit_with(engine: EngineWord, ops: OpWords) -> Option<Line>
     }
 }
 
+#[inline(never)]
 pub fn submit(
     alloc: Global,
     names: &Names,
     engines: u32,
-    words: &[Bytes],
+    words: &[Word],
 ) -> Result<Option<Line>, NoMemory>
     requires { length names.now ≤ 256 }
     ensures { IfOk result (λ line. line ≡ submit_line names.now engines words.now) }

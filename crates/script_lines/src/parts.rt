@@ -8,15 +8,16 @@ ghost use Rattle.journal_model.specs.scripts.LineWords.{version_line, vram_line,
 use crate::addresses::{vmap, vsubmit, vunmap};
 use crate::buffers::buffer;
 use crate::jobs::submit;
+use journal_model::Script;
 use journal_model::line::{Access, ActorWord, ActorWords, Keyword, Line, Verb};
-use journal_model::{Bytes, Script};
+use script_words::cut::Word;
 use script_words::names::Names;
 use script_words::words::{actor, bytes, is, memory, number, offset};
 use std::alloc::Global;
 use ttm_base::NoMemory;
 use ttm_base::limits::{MAX_ENGINES, MAX_LINE_ACTORS, MAX_MEMORY_PAGES, MAX_SLOTS};
 
-fn version_of(words: &[Bytes]) -> Option<Line>
+fn version_of(words: &[Word]) -> Option<Line>
     ensures { result ≡ version_line words.now }
 {
     match words {
@@ -33,7 +34,7 @@ fn version_of(words: &[Bytes]) -> Option<Line>
     }
 }
 
-fn vram_of(words: &[Bytes]) -> Option<Line>
+fn vram_of(words: &[Word]) -> Option<Line>
     ensures { result ≡ vram_line words.now }
 {
     match words {
@@ -56,7 +57,7 @@ fn vram_of(words: &[Bytes]) -> Option<Line>
     }
 }
 
-fn tt(words: &[Bytes]) -> Option<Line>
+fn tt(words: &[Word]) -> Option<Line>
     ensures { result ≡ size_line (λ n. Line.Tt n) 16384 words.now }
 {
     match words {
@@ -67,7 +68,7 @@ fn tt(words: &[Bytes]) -> Option<Line>
     }
 }
 
-fn frames(words: &[Bytes]) -> Option<Line>
+fn frames(words: &[Word]) -> Option<Line>
     ensures { result ≡ size_line (λ n. Line.Frames n) 16384 words.now }
 {
     match words {
@@ -78,7 +79,7 @@ fn frames(words: &[Bytes]) -> Option<Line>
     }
 }
 
-fn swap(words: &[Bytes]) -> Option<Line>
+fn swap(words: &[Word]) -> Option<Line>
     ensures { result ≡ size_line (λ n. Line.Swap n) 32768 words.now }
 {
     match words {
@@ -89,7 +90,7 @@ fn swap(words: &[Bytes]) -> Option<Line>
     }
 }
 
-fn engines(words: &[Bytes]) -> Option<Line>
+fn engines(words: &[Word]) -> Option<Line>
     ensures { result ≡ size_line (λ n. Line.Engines n) 8 words.now }
 {
     match words {
@@ -100,7 +101,7 @@ fn engines(words: &[Bytes]) -> Option<Line>
     }
 }
 
-fn alone_of(line: Line, words: &[Bytes]) -> Option<Line>
+fn alone_of(line: Line, words: &[Word]) -> Option<Line>
     ensures { result ≡ alone line words.now }
 {
     match words {
@@ -125,7 +126,7 @@ fn actors_of(
     alloc: Global,
     threads: u32,
     engines: u32,
-    words: &[Bytes],
+    words: &[Word],
 ) -> Result<ActorWords, NoMemory>
     ensures { IfOk result (λ actors. actors ≡ map (actor_of threads engines) words.now) }
 {
@@ -147,12 +148,8 @@ fn turn_of(actors: ActorWords) -> Option<Line>
     }
 }
 
-fn turn(
-    alloc: Global,
-    threads: u32,
-    engines: u32,
-    words: &[Bytes],
-) -> Result<Option<Line>, NoMemory>
+#[inline(never)]
+fn turn(alloc: Global, threads: u32, engines: u32, words: &[Word]) -> Result<Option<Line>, NoMemory>
     ensures { IfOk result (λ line. line ≡ turn_line_of threads engines words.now) }
 {
     match words {
@@ -161,7 +158,7 @@ fn turn(
     }
 }
 
-fn plain(names: &Names, verb: Verb, words: &[Bytes]) -> Option<Line>
+fn plain(names: &Names, verb: Verb, words: &[Word]) -> Option<Line>
     requires { length names.now ≤ 256 }
     ensures { result ≡ plain_line names.now verb words.now }
 {
@@ -174,11 +171,12 @@ fn plain(names: &Names, verb: Verb, words: &[Bytes]) -> Option<Line>
     }
 }
 
+#[inline(never)]
 fn write(
     alloc: Global,
     access: Access,
     names: &Names,
-    words: &[Bytes],
+    words: &[Word],
 ) -> Result<Option<Line>, NoMemory>
     requires { length names.now ≤ 256 }
     ensures { IfOk result (λ line. line ≡ write_line access names.now words.now) }
@@ -209,7 +207,7 @@ fn read_with(access: Access, names: &Names, b: &[u8], off: &[u8], len: &[u8]) ->
     }
 }
 
-fn read(access: Access, names: &Names, words: &[Bytes]) -> Option<Line>
+fn read(access: Access, names: &Names, words: &[Word]) -> Option<Line>
     requires { length names.now ≤ 256 }
     ensures { result ≡ read_line access names.now words.now }
 {
@@ -219,7 +217,7 @@ fn read(access: Access, names: &Names, words: &[Bytes]) -> Option<Line>
     }
 }
 
-fn move_of(names: &Names, words: &[Bytes]) -> Option<Line>
+fn move_of(names: &Names, words: &[Word]) -> Option<Line>
     requires { length names.now ≤ 256 }
     ensures { result ≡ move_line names.now words.now }
 {
@@ -235,7 +233,7 @@ fn move_of(names: &Names, words: &[Bytes]) -> Option<Line>
     }
 }
 
-fn touch(words: &[Bytes]) -> Option<Line>
+fn touch(words: &[Word]) -> Option<Line>
     ensures { result ≡ touch_line words.now }
 {
     match words {
@@ -246,7 +244,7 @@ fn touch(words: &[Bytes]) -> Option<Line>
     }
 }
 
-fn map(names: &Names, words: &[Bytes]) -> Option<Line>
+fn map(names: &Names, words: &[Word]) -> Option<Line>
     requires { length names.now ≤ 256 }
     ensures { result ≡ named_line (λ b. Line.Map b) names.now words.now }
 {
@@ -258,7 +256,7 @@ fn map(names: &Names, words: &[Bytes]) -> Option<Line>
     }
 }
 
-fn unmap(names: &Names, words: &[Bytes]) -> Option<Line>
+fn unmap(names: &Names, words: &[Word]) -> Option<Line>
     requires { length names.now ≤ 256 }
     ensures { result ≡ named_line (λ b. Line.Unmap b) names.now words.now }
 {
@@ -276,7 +274,7 @@ fn parts(
     names: &Names,
     script: &Script,
     keyword: Keyword,
-    words: &[Bytes],
+    words: &[Word],
 ) -> Result<Option<Line>, NoMemory>
     requires names { names.now ≡ names_of script.now.buffers }
     requires buffers { length script.now.buffers ≤ 256 }
@@ -314,10 +312,10 @@ fn parts(
     }
 }
 
-fn is_some_empty(words: &[Bytes]) -> bool
+fn is_some_empty(words: &[Word]) -> bool
     ensures { result ≡ list_any is_empty words.now }
 {
-    words.iter().any(|w| w.len() == 0)
+    words.iter().any(|w| w.items().len() == 0)
 }
 
 /// Returns the line of `words`, with each word read as far as it can be, or `None` where there is a wrong space, a wrong number of words or
@@ -327,7 +325,7 @@ pub fn line(
     names: &Names,
     script: &Script,
     keyword: Keyword,
-    words: &[Bytes],
+    words: &[Word],
 ) -> Result<Option<Line>, NoMemory>
     requires names { names.now ≡ names_of script.now.buffers }
     requires buffers { length script.now.buffers ≤ 256 }

@@ -4,15 +4,14 @@ ghost use Rattle.std.specs.Prelude.{◌≡◌, ◌==◌, ◌≤◌, ◌+◌, len
 ghost use Rattle.journal_model.specs.scripts.Cut.{cut_at};
 ghost use Rattle.journal_model.specs.scripts.Reading.{last_flags_of, contig_flags_of, flags_of, flagged, ranged, is_system, two_numbers_place, reach_place, based_place, at_place, plus_place, place_word_of, places_of};
 
-use journal_model::Bytes;
 use journal_model::line::{Flags, PlaceWord, PlaceWords};
-use script_words::cut::cut;
+use script_words::cut::{Word, cut};
 use script_words::words::{is, memory, number};
 use std::alloc::Global;
 use ttm_base::limits::MAX_MEMORY_PAGES;
 use ttm_base::{FlaggedPlace, Mem, NoMemory, Place};
 
-fn last_flags(two: bool, topdown: bool, contig: bool, words: &[Bytes]) -> Option<Flags>
+fn last_flags(two: bool, topdown: bool, contig: bool, words: &[Word]) -> Option<Flags>
     ensures { result ≡ last_flags_of two topdown contig words.now }
 {
     match words {
@@ -45,7 +44,7 @@ fn last_flags(two: bool, topdown: bool, contig: bool, words: &[Bytes]) -> Option
     }
 }
 
-fn contig_flags(two: bool, topdown: bool, words: &[Bytes]) -> Option<Flags>
+fn contig_flags(two: bool, topdown: bool, words: &[Word]) -> Option<Flags>
     ensures { result ≡ contig_flags_of two topdown words.now }
 {
     match words {
@@ -60,7 +59,7 @@ fn contig_flags(two: bool, topdown: bool, words: &[Bytes]) -> Option<Flags>
     }
 }
 
-fn flags(two: bool, words: &[Bytes]) -> Option<Flags>
+fn flags(two: bool, words: &[Word]) -> Option<Flags>
     ensures { result ≡ flags_of two words.now }
 {
     match words {
@@ -123,7 +122,7 @@ fn with_two_numbers(mem: Mem, first: &[u8], last: &[u8], flags: Flags) -> PlaceW
     with_range(mem, first, last, flags)
 }
 
-fn with_reach(mem: Mem, words: &[Bytes], flags: Flags) -> PlaceWord
+fn with_reach(mem: Mem, words: &[Word], flags: Flags) -> PlaceWord
     ensures { result ≡ reach_place mem words.now flags }
 {
     match words {
@@ -163,7 +162,7 @@ fn behind(base: &[u8], first: usize) -> &[u8]
 fn with_mem(
     alloc: Global,
     base: &[u8],
-    words: &[Bytes],
+    words: &[Word],
     flags: Option<Flags>,
 ) -> Result<PlaceWord, NoMemory>
     requires parts { words.now ≡ cut_at 64 base.now }
@@ -179,7 +178,7 @@ fn with_mem(
     }
 }
 
-fn with_plus(alloc: Global, two: bool, words: &[Bytes]) -> Result<PlaceWord, NoMemory>
+fn with_plus(alloc: Global, two: bool, words: &[Word]) -> Result<PlaceWord, NoMemory>
     ensures { IfOk result (λ place. place ≡ plus_place two words.now) }
 {
     match words {
@@ -199,7 +198,7 @@ pub fn place(alloc: Global, two: bool, word: &[u8]) -> Result<PlaceWord, NoMemor
     with_plus(alloc, two, words.items())
 }
 
-fn places_in(alloc: Global, two: bool, words: &[Bytes]) -> Result<PlaceWords, NoMemory>
+fn places_in(alloc: Global, two: bool, words: &[Word]) -> Result<PlaceWords, NoMemory>
     ensures { IfOk result (λ places. places ≡ map (place_word_of two) words.now) }
 {
     let mut places = PlaceWords::new(alloc);

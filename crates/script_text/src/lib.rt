@@ -10,7 +10,7 @@ ghost use Rattle.script_text.specs.Steps.{Gives};
 
 use journal_model::Script;
 use script_rules::script_mappings::ThreadMappings;
-use script_words::cut::len_of_line;
+use script_words::cut::{Words, len_of_line};
 use script_words::names::Names;
 use std::alloc::Global;
 use ttm_base::NoMemory;
@@ -39,12 +39,13 @@ fn read_lines(alloc: Global, bytes: &[u8]) -> Result<Script, ScriptFault>
         thread_mappings: ThreadMappings::new(alloc),
     };
     let mut progress = start(alloc);
+    let mut words = Words::new(alloc);
     let mut line = 0;
     let mut rest = bytes;
     while !rest.is_empty() {
         let (text, after) = rest.split_at(len_of_line(rest));
         line += 1;
-        match take_line(alloc, &mut known, &mut progress, text) {
+        match take_line(alloc, &mut words, &mut known, &mut progress, text) {
             Ok(None) => rest = after,
             Ok(Some(rule)) => return Err(ScriptFault::Bad { line, rule }),
             Err(NoMemory) => return Err(ScriptFault::NoMemory),

@@ -25,7 +25,7 @@ use journal_model::{
 use script_lines::line;
 use script_rules::script_mappings::ThreadMappings;
 use script_rules::{broken, lens_within};
-use script_words::cut::cut;
+use script_words::cut::{Word, Words, cut_into};
 use script_words::keywords::{can_come, keyword};
 use script_words::names::Names;
 use std::alloc::Global;
@@ -398,7 +398,7 @@ fn breaks_line(text: &[u8]) -> bool
     !does_end(text) || text.len() < 2 || has_hidden(front_of(text))
 }
 
-fn keyword_of_line(words: &[Bytes]) -> Keyword
+fn keyword_of_line(words: &[Word]) -> Keyword
     ensures { result ≡ keyword_of (first_word words.now) }
 {
     match words {
@@ -412,7 +412,7 @@ fn take_words(
     alloc: Global,
     known: &mut Known,
     progress: &mut Progress,
-    words: &[Bytes],
+    words: &[Word],
 ) -> Result<Option<u32>, NoMemory>
     requires steady { IsSteady known.old.names progress.old }
     requires known { IsKnown known.old.thread_mappings progress.old }
@@ -441,12 +441,13 @@ fn take_words(
     Ok(None)
 }
 
-/// Takes a line, or returns the least rule that it breaks.
-pub fn take_line(
+/// Takes a line, or returns the least rule that it breaks. The list `words` is left with what the line has.
+pub fn take_line<'a>(
     alloc: Global,
+    words: &mut Words<'a>,
     known: &mut Known,
     progress: &mut Progress,
-    text: &[u8],
+    text: &'a [u8],
 ) -> Result<Option<u32>, NoMemory>
     requires steady { IsSteady known.old.names progress.old }
     requires known { IsKnown known.old.thread_mappings progress.old }
@@ -457,7 +458,7 @@ pub fn take_line(
     if breaks_line(text) {
         return Ok(Some(2));
     }
-    let words = cut(alloc, b' ', front_of(text))?;
+    cut_into(words, b' ', front_of(text))?;
     take_words(alloc, known, progress, words.items())
 }
 

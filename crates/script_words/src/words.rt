@@ -5,7 +5,7 @@ ghost use Rattle.std.specs.List.{list_all};
 ghost use Rattle.journal_model.specs.scripts.Cut.{is_semicolon};
 ghost use Rattle.journal_model.specs.scripts.Reading.{is_digit, has_no_leading_zero, is_plain, read_on, number_in, group_of, offset_of, address_of, is_hex, hex_value, bytes_in_hex, byte_in_hex, mem_of, engine_word_of, actor_of, thread_actor, engine_actor};
 
-use hex::FromHexError;
+use crate::cut::Word;
 use journal_model::Bytes;
 use journal_model::line::{ActorWord, EngineWord};
 use std::alloc::Global;
@@ -26,10 +26,23 @@ pub fn owned(alloc: Global, text: &[u8]) -> Result<Bytes, NoMemory>
 pub fn is(word: &[u8], text: &[u8]) -> bool
     ensures { result ≡ bytes_eq word.now text.now }
 {
-    word.len() == text.len() && word == text
+    word.len() == text.len() && is_of_same_length(word, text)
 }
 
-pub fn is_lone_semicolon(word: &Bytes) -> bool
+/// Returns whether `word` is `text`, which is as long.
+fn is_of_same_length(word: &[u8], text: &[u8]) -> bool
+    requires { length word.now ≡ length text.now }
+    ensures { result ≡ bytes_eq word.now text.now }
+{
+    for i in 0..text.len() {
+        if word[i] != text[i] {
+            return false;
+        }
+    }
+    true
+}
+
+pub fn is_lone_semicolon(word: &Word) -> bool
     ensures { result ≡ is_semicolon word.now }
 {
     is(word.items(), b";")
@@ -200,24 +213,19 @@ pub fn actor(threads: u32, engines: u32, word: &[u8]) -> ActorWord
     }
 }
 
-fn are_hex_digits(word: &[u8]) -> bool
-    ensures { result ≡ list_all is_hex word.now }
-{
-    word.iter().all(|c| is_hex_digit(*c))
-}
-
 /// Returns the bytes that `word` tells in pairs of lower-case hexadecimal digits, or `None` if it tells none.
 pub fn bytes(alloc: Global, word: &[u8]) -> Result<Option<Bytes>, NoMemory>
     ensures { IfOk result (λ bytes. bytes ≡ bytes_in_hex word.now) }
 {
-    if !are_hex_digits(word) {
+    if word.len() % 2 != 0 {
         return Ok(None);
     }
-    match hex::decode(alloc, word) {
-        Ok(bytes) => Ok(Some(owned(alloc, bytes.as_slice())?)),
-        Err(error) => match error {
-            FromHexError::OutOfMemory => Err(NoMemory),
-            _ => Ok(None),
-        },
+    let mut bytes = Bytes::new(alloc);
+    for i in 0..word.len() / 2 {
+        match byte(&word[2 * i..2 * i + 2]) {
+            Some(b) => bytes.push(b)?,
+            None => return Ok(None),
+        }
     }
+    Ok(Some(bytes))
 }

@@ -7,7 +7,7 @@ use Rattle.entry_reader.specs.EntryReading.{entry_of}
 use Rattle.entry_reader.specs.Read.{IsRead}
 use Rattle.entry_reader.proofs.EntryLaws.{entry_read}
 use Rattle.entry_reader.proofs.ScriptFacts.{few_buffers, few_threads}
-use Rattle.entry_reader.proofs.entry.read_entry.Goals as goal
+use Rattle.entry_reader.proofs.entry.read_entry_by.Goals as goal
 
 pub entry_by_line-requires : goal.entry_by_line-requires
 entry_by_line-requires c =
