@@ -1,6 +1,4 @@
-pub mod LastLaws
 pub mod Firsts
 pub mod Unfenced
 pub mod Told
 pub mod Marked
-pub mod Stretches

@@ -1,3 +1,2 @@
 pub mod Mentions
 pub mod Seen
-pub mod Stretch

@@ -4,7 +4,6 @@ mod mentions;
 mod queries;
 mod ready;
 mod standing;
-mod stretch;
 mod tasks;
 
 pub use mentions::first_missing;

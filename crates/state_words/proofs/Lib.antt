@@ -3,3 +3,5 @@ pub mod PageLaws
 pub mod ListSteps
 pub mod ListLaws
 pub mod Pins
+pub mod Stretches
+pub mod LastLaws

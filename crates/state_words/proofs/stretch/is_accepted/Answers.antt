@@ -1,8 +1,8 @@
 use Rattle.std.proofs.Common.{◌∙◌, ap₂}
 use Rattle.std.specs.List.{list_any}
-use Rattle.room_state.specs.room_tasks.Stretch as words
-use Rattle.room_state.proofs.room_tasks.Stretches.{accepted}
-use Rattle.room_state.proofs.room_tasks.stretch.is_accepted.Goals as goal
+use Rattle.state_words.specs.Stretch as words
+use Rattle.state_words.proofs.Stretches.{accepted}
+use Rattle.state_words.proofs.stretch.is_accepted.Goals as goal
 
 pub returns : goal.returns
 returns c =

@@ -8,7 +8,7 @@ use Rattle.ttm_base.specs.declared.Span.{Span}
 use Rattle.ttm_base.specs.declared.FlaggedPlace.{FlaggedPlace}
 use Rattle.ttm_base.specs.Reach.{reach, same_mem, is_inside, is_contiguous}
 use Rattle.ttm_base.specs.Placement.{compatible}
-use Rattle.room_state.specs.room_tasks.Stretch.{around, around_all, stretch_of, lies_in, takes}
+use Rattle.state_words.specs.Stretch.{around, around_all, stretch_of, lies_in, takes}
 
 below_both : (w a b : ℕ) → nat_le w (min a b) ≡ (nat_le w a && nat_le w b)
 below_both w a b = grind (arith, nat_tests)

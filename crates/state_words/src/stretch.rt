@@ -2,7 +2,7 @@
 ghost use Rattle.std.specs.Prelude.{◌≡◌};
 ghost use Rattle.std.specs.List.{list_any};
 ghost use Rattle.ttm_base.specs.Placement.{compatible};
-ghost use Rattle.room_state.specs.room_tasks.Stretch as words;
+ghost use Rattle.state_words.specs.Stretch as words;
 
 use place_list::rules_places::{is_contiguous, is_inside, reach, same_mem};
 use ttm_base::{FlaggedPlace, Mem, Place, Span};
