@@ -7,11 +7,12 @@ ghost use Rattle.journal_model.specs.rules.ApplyCommands.{with_holder, pinned_mo
 ghost use Rattle.journal_model.specs.rules.ApplyPages.{without_frames, with_loc, with_spans, bound, unbound};
 ghost use Rattle.journal_model.specs.rules.ApplyVictims.{leaves_tt};
 ghost use Rattle.journal_model.specs.rules.ApplyMoves.{table_left};
-ghost use Rattle.bo_table.specs.Seen.{carried, IsDead, IsChanged, IsReservationChanged, IsReset, IsUsed};
+ghost use Rattle.bo_table.specs.Seen.{carried, reservation_of, IsDead, IsChanged, IsReservationChanged, IsReset, IsUsed};
 
 use crate::page_table::PageTable;
-use journal_model::Targets;
+use journal_model::{Reservation, Targets};
 use resv_object::Resv;
+use state_words::set_target;
 use std::alloc::Global;
 use ttm_base::{JobId, Loc, Mem, NoMemory, Spans, Stamp, Usage};
 
@@ -23,17 +24,6 @@ fn no_targets() -> Targets
         system: None,
         tt: None,
         vram: None,
-    }
-}
-
-/// Sets the target in the memory type `mem` to `spans`, or to none.
-fn set_target(targets: &mut Targets, mem: Mem, spans: Option<Spans>)
-    ensures { targets.new ≡ with_target mem spans targets.old }
-{
-    match mem {
-        Mem::System => targets.system = spans,
-        Mem::Tt => targets.tt = spans,
-        Mem::Vram => targets.vram = spans,
     }
 }
 
@@ -117,6 +107,16 @@ impl Bo {
             pins: 0,
             resv,
         })
+    }
+
+    /// Returns the pins and the holder of the buffer.
+    pub fn reservation(&self) -> Reservation
+        ensures { result ≡ reservation_of self.now }
+    {
+        Reservation {
+            pins: self.pins,
+            holder: self.resv.holder(),
+        }
     }
 
     /// Makes the buffer live in SYSTEM, with no page, pin, holder, target or job.

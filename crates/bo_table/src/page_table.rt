@@ -9,6 +9,7 @@ ghost use Rattle.journal_model.specs.rules.Places as words;
 ghost use Rattle.bo_table.specs.Pages.{frame_count, first_filled, first_unfilled};
 
 use journal_model::Table;
+use state_words::drop_frames;
 use std::alloc::Global;
 use std::marker::Model;
 use ttm_base::{Loc, NoMemory};
@@ -20,16 +21,6 @@ fn is_frame(place: Loc) -> bool
     matches!(place, Loc::Frame(_))
 }
 
-/// Returns the place of a page after its frame was given back.
-fn without_its_frame(place: Loc) -> Loc
-    ensures { result ≡ without_frame place }
-{
-    match place {
-        Loc::Frame(_) | Loc::Zero => Loc::Zero,
-        Loc::Slot(slot) => Loc::Slot(slot),
-    }
-}
-
 /// Returns a table of `pages` pages that are all Zero.
 fn zero_pages(alloc: Global, pages: u32) -> Result<Table, NoMemory>
     ensures { IfOk result (λ places. places ≡ replicate pages loc.Zero) }
@@ -39,15 +30,6 @@ fn zero_pages(alloc: Global, pages: u32) -> Result<Table, NoMemory>
         places.push(Loc::Zero)?;
     }
     Ok(places)
-}
-
-/// Takes the frames out of a page table.
-fn drop_frames(places: &mut Table)
-    ensures { places.new ≡ map without_frame places.old }
-{
-    for i in 0..places.len() {
-        places.set(i, without_its_frame(places.at(i)));
-    }
 }
 
 /// Makes each page Zero.

@@ -1,14 +1,13 @@
 ghost use Rattle.std.specs.Prelude.{◌≡◌, IfOk, option_map};
 ghost use Rattle.journal_model.specs.rules.Dry as words;
-ghost use Rattle.bo_table.specs.Seen.{reservation_of};
 ghost use Rattle.room_state.specs.room_turns.Turns.{state_behind};
 ghost use Rattle.evict_core.specs.Rows as rows_of;
 
 use bo_table::Bo;
-use journal_model::{Cause, CauseRow, Causes, Script};
+use journal_model::{CauseRow, Causes, Script};
 use room_representation::Ghost;
 use room_state::room_turns::Rooms;
-use state_words::{intersects, reach_of, same_mem, target_of};
+use state_words::{cause_of, intersects, reach_of, same_mem, target_of};
 use std::alloc::Global;
 use ttm_base::{BufId, Mem, NoMemory, Place, Span};
 
@@ -47,25 +46,6 @@ pub(crate) fn ghost_in(rooms: &Rooms, place: Place) -> Option<u64>
     number_in(rooms.ghosts(), place.mem, reach_of(rooms.script(), place))
 }
 
-/// Returns why the buffer `bo` can't be evicted: the first cause that holds.
-fn cause_of(script: &Script, place: Place, bo: &Bo) -> Cause
-    ensures { result ≡ words.cause_of script.now place (reservation_of bo.now) (rows_of.buffer_of bo.now) }
-{
-    if bo.pins > 0 {
-        return Cause::Pinned;
-    }
-    match bo.resv.holder() {
-        Some(stamp) => Cause::Reserved(stamp),
-        None => {
-            if intersects(bo.spans.items(), reach_of(script, place)) {
-                Cause::Skipped
-            } else {
-                Cause::Outside
-            }
-        }
-    }
-}
-
 /// Returns whether the buffer `bo` is live and has its resource or a target in the manager of `place`.
 fn is_kept_in(place: Place, bo: &Bo) -> bool
     ensures { result ≡ rows_of.is_kept_in place bo.now }
@@ -80,7 +60,7 @@ fn row_in(script: &Script, place: Place, b: BufId, bo: &Bo) -> Option<CauseRow>
     if is_kept_in(place, bo) {
         Some(CauseRow {
             b,
-            cause: cause_of(script, place, bo),
+            cause: cause_of(script, place, bo.reservation(), bo.spans.items()),
         })
     } else {
         None

@@ -3,7 +3,6 @@ ghost use Rattle.ttm_base.specs.declared.Actor.TheVariants as actor;
 ghost use Rattle.journal_model.specs.declared.entry.Kind.TheVariants as kind_words;
 ghost use Rattle.journal_model.specs.declared.state.Stage.TheVariants as stage;
 ghost use Rattle.journal_model.specs.rules.Tasks.{stage_of, task_of};
-ghost use Rattle.journal_model.specs.rules.Search as words;
 ghost use Rattle.room_state.specs.room_turns.Turns.{state_behind};
 ghost use Rattle.room_state.specs.declared.room_turns.Step.TheVariants as step_words;
 ghost use Rattle.room_state.specs.room_turns.Searching.{finds_choice, victim_of};
@@ -11,24 +10,14 @@ ghost use Rattle.room_state.specs.room_turns.Turns.{after_step, entry_of, step_o
 ghost use Rattle.evict_core.specs.Tasks.{is_skip, lets_go};
 
 use crate::keepers::{causes, ghost_in};
-use crate::victims::{is_long_enough, victim};
-use journal_model::{DryWhy, Kind, Task, Why};
+use crate::victims::victim;
+use journal_model::{DryWhy, Kind, Task};
 use room_state::room_turns::{
     BufferSearch, Rooms, Step, buffer_search_at_work, make, place_at_work,
 };
+use state_words::{is_long_enough, why_of};
 use std::alloc::Global;
-use ttm_base::{Actor, BufId, Mem, Need, NoMemory};
-
-/// Returns for what a victim of a place in the memory type `mem` is caught.
-fn why_of(mem: Mem) -> Why
-    ensures { result ≡ words.why_of mem }
-{
-    match mem {
-        Mem::Vram => Why::Vram,
-        Mem::Tt => Why::Tt,
-        Mem::System => Why::Swap,
-    }
-}
+use ttm_base::{Actor, BufId, Need, NoMemory};
 
 /// Returns the buffer that is evicted for the search of `thread`, or None where the forced place at work is shorter than the buffer that looks for
 /// pages, or where no buffer in it may be evicted. Takes time by the lists of the place's memory type up to the first that may be, by the spans of

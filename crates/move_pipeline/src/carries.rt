@@ -6,18 +6,14 @@ ghost use Rattle.journal_model.specs.declared.state.Task.TheVariants as task;
 ghost use Rattle.journal_model.specs.rules.PageSteps as words;
 ghost use Rattle.journal_model.specs.rules.State as state;
 ghost use Rattle.journal_model.specs.rules.Tasks.{task_of, stage_of};
-ghost use Rattle.laws.specs.lemma_bytes_told.Told.{IsThere};
 ghost use Rattle.room_state.specs.room_turns.Turns.{state_behind};
-ghost use Rattle.room_representation.specs.room_steps.Lent.{as_buffer};
-ghost use Rattle.room_representation.specs.Bos.{unfenced};
 ghost use Rattle.room_state.specs.declared.room_turns.Step.TheVariants as answer;
 ghost use Rattle.room_state.specs.room_turns.Acting.{is_untake, job_before_unbind, made_unless};
 ghost use Rattle.room_state.specs.room_turns.Turns.{after_step, entry_of, step_of};
 
-use bo_table::Bo;
 use journal_model::{Kind, Left, Task};
 use room_state::room_turns::{Rooms, Step, make};
-use state_words::{is_caught, target_of};
+use state_words::{is_caught, target_to_untake};
 use ttm_base::{Actor, BufId, Mem, Need, NoMemory, Usage};
 
 /// Moves buffer `b` back to SYSTEM, once no job uses it.
@@ -77,27 +73,6 @@ pub fn carry(rooms: &mut Rooms, thread: u32) -> Result<Step, NoMemory>
     }
 }
 
-/// Returns buffer `b`, which is live.
-fn lent(rooms: &Rooms, b: BufId) -> &Bo
-    requires { IsThere (state_behind rooms.now) b }
-    ensures { as_buffer result.now ≡ unfenced (state.buffer (state_behind rooms.now) b) }
-{
-    rooms.parts().bos.get(b)
-}
-
-/// Returns the memory type of the target to give back: VRAM, then TT, then SYSTEM.
-fn target_to_untake(bo: &Bo) -> Mem
-    ensures { result ≡ words.target_to_untake (as_buffer bo.now) }
-{
-    if target_of(Mem::Vram, &bo.targets).is_some() {
-        Mem::Vram
-    } else if target_of(Mem::Tt, &bo.targets).is_some() {
-        Mem::Tt
-    } else {
-        Mem::System
-    }
-}
-
 /// Gives back a target that a failed search took, in the stage Fail, where there is one and no Depopulate is due.
 ///
 /// # Errors
@@ -114,6 +89,6 @@ pub fn untake(rooms: &mut Rooms, thread: u32) -> Result<Step, NoMemory>
     let Task::GiveBack(b) = rooms.task(thread) else {
         unreachable!()
     };
-    let mem = target_to_untake(lent(rooms, b));
+    let mem = target_to_untake(&rooms.lent(b).targets);
     make(rooms, Actor::Thread(thread), Kind::Untake { b, mem })
 }

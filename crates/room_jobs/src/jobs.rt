@@ -6,10 +6,11 @@ ghost use Rattle.room_representation.specs.Held.{AreHeld};
 
 use crate::packets::packets_of;
 use crate::uses::{add_uses, waits_at};
-use crate::work::{command_at_work, named_by, ops_of};
+use crate::work::command_at_work;
 use journal_model::{Entry, Script};
 use room_representation::Parts;
 use room_representation::room_steps::has_made;
+use state_words::{named_in, ops_of};
 use std::alloc::Global;
 use ttm_base::{JobId, NoMemory};
 
@@ -33,7 +34,7 @@ pub fn arm(
 {
     let command = command_at_work(script, &parts.courses, thread);
     let ops = ops_of(command);
-    let named = named_by(alloc, command)?;
+    let named = named_in(alloc, command)?;
     let bs = named.items();
     let waits = waits_at(alloc, &parts.bos, parts.line.contexts(), ops, bs)?;
     let packets = packets_of(alloc, &parts.bos, ops)?;

@@ -7,8 +7,8 @@ ghost use Rattle.room_moves.specs.Copies.{copies, named};
 
 use bo_table::Bo;
 use place_list::PageCursor;
+use state_words::copy_of_page;
 use std::alloc::Global;
-use ttm_base::limits::PAGE_BYTES;
 use ttm_base::{Mem, NoMemory, Packet, PagePlace, Span};
 
 /// Returns how packets name page `page` of the memory type `mem`, which is VRAM or TT.
@@ -31,19 +31,6 @@ fn next_name(mem: Mem, pages: &mut PageCursor) -> PagePlace
 {
     let page = pages.next().unwrap_or(0);
     name(mem, page)
-}
-
-/// Returns the packet that copies one page.
-fn copy_of_page(to: PagePlace, from: PagePlace) -> Packet
-    ensures { result ≡ words.copy_of_page to from }
-{
-    Packet::Copy {
-        to,
-        toff: 0,
-        from,
-        foff: 0,
-        len: PAGE_BYTES,
-    }
 }
 
 /// Returns the packets that copy `pages` pages, one by one. Costs as many steps as there are pages and spans.

@@ -1,4 +1,3 @@
-pub mod LastLaws
 pub mod Firsts
 pub mod Unfenced
 pub mod Told

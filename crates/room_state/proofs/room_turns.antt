@@ -3,3 +3,6 @@ pub mod Turned
 pub mod Works
 pub mod BufferSearched
 pub mod Finds
+pub mod ListLaws
+pub mod RestLaws
+pub mod WalkLaws

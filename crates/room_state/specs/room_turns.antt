@@ -2,3 +2,4 @@ pub mod Turns
 pub mod Searching
 pub mod Acting
 pub mod BufferSearches
+pub mod Rests

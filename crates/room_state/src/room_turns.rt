@@ -1,5 +1,6 @@
 //! The turn of an actor on the rooms: its next entry, or what it needs first.
 mod buffer_searches;
+mod walk;
 
 ghost use Rattle.std.specs.Prelude.{◌≡◌, Ok, IfOk, OnOk, OnErr};
 ghost use Rattle.room_state.specs.room_turns.Turns.{entry_by, entry_of, step_by, step_of, after_step};
@@ -10,6 +11,7 @@ pub use buffer_searches::{
 };
 use journal_model::{Entry, Kind};
 use ttm_base::{Actor, Need, NoMemory};
+pub use walk::Walk;
 
 /// The answer to an actor's turn.
 #[derive(Clone, Copy)]

@@ -16,7 +16,8 @@ ghost use Rattle.journal_model.specs.rules.Commands.{command_at_work as command_
 ghost use Rattle.journal_model.specs.scripts.ScriptRules.{is_script};
 ghost use Rattle.journal_model.specs.rules.Legal.{IsLegal};
 ghost use Rattle.room_representation.specs.lemma_room_lists.Listed.{HasLists};
-ghost use Rattle.room_representation.specs.Bos.{AreBos};
+ghost use Rattle.room_representation.specs.Bos.{AreBos, unfenced};
+ghost use Rattle.room_representation.specs.room_steps.Lent.{as_buffer};
 ghost use Rattle.room_representation.specs.Ghosts.{AreGhosts};
 ghost use Rattle.room_representation.specs.Held.{AreHeld};
 ghost use Rattle.room_representation.specs.Lines.{IsTimeline};
@@ -27,7 +28,7 @@ ghost use Rattle.aperture_table.specs.Translation.{frame_at};
 use crate::make::make_parts;
 use crate::room_first::first_parts;
 use aperture_table::Aperture;
-use bo_table::BoTable;
+use bo_table::{Bo, BoTable};
 use copy_engine::Rings;
 use copy_packet::ProbeBytes;
 use fence_core::Timeline;
@@ -179,6 +180,14 @@ impl Rooms {
         ensures { AreHeld self.now.script self.now.journal result.now }
     {
         &self.parts
+    }
+
+    /// Returns buffer `b`, which is live.
+    pub fn lent(&self, b: BufId) -> &Bo
+        requires { IsThere (state_behind self.now) b }
+        ensures { as_buffer result.now ≡ unfenced (buffer (state_behind self.now) b) }
+    {
+        self.parts().bos.get(b)
     }
 
     /// Returns whether every command is answered, every job is done and there is no ghost.

@@ -14,9 +14,10 @@ use rules_state::rules_parts::buffers::put_item;
 use rules_state::rules_parts::lists::{listed_in, members_last, taken_off, touched_all};
 use rules_state::rules_parts::reservations::{change_pins, release_all};
 use rules_state::{
-    buffer_in, command_at_work, dead_buffer, declared_pages, frames_of, has_buffer, named,
-    new_buffer, new_course, no_reservation, without_buffer,
+    buffer_in, command_at_work, dead_buffer, declared_pages, frames_of, has_buffer, new_buffer,
+    new_course, no_reservation, without_buffer,
 };
+use state_words::named_in;
 use std::alloc::Global;
 use ttm_base::{BufId, Mem, NoMemory, Spans};
 
@@ -126,16 +127,6 @@ pub fn bulk(
     Ok(())
 }
 
-/// Returns the buffers that `command` names.
-pub fn buffers_of(alloc: Global, command: Option<&Command>) -> Result<BufIds, NoMemory>
-    ensures { IfOk result (λ bs. bs ≡ named_in (option_copied command.entry)) }
-{
-    match command {
-        Some(command) => named(alloc, command),
-        None => Ok(BufIds::new(alloc)),
-    }
-}
-
 /// Returns those of `bs` that are among `held`.
 fn held_among(alloc: Global, held: &[BufId], bs: &[BufId]) -> Result<BufIds, NoMemory>
     ensures { IfOk result (λ found. found ≡ filter (words.has_buffer held.now) bs.now) }
@@ -179,7 +170,7 @@ fn answered_lists(
 ) -> Result<Lists, NoMemory>
     ensures { IfOk result (λ new. new ≡ fold (touched script.now buffers.now reservations.now) lists.now (filter (words.has_buffer held.now) (named_in (option_copied command.entry)))) }
 {
-    let bs = buffers_of(alloc, command)?;
+    let bs = named_in(alloc, command)?;
     let held = held_among(alloc, held, bs.items())?;
     touched_all(alloc, script, buffers, reservations, lists, held.items())
 }

@@ -3,11 +3,11 @@ ghost use Rattle.journal_model.specs.rules.Waits as waits;
 ghost use Rattle.journal_model.specs.rules.ApplyJobs.{with_use, after_arm, after_packet_run, after_done, after_reap};
 ghost use Rattle.rules_apply.specs.Ready.{IsThread, CanRun};
 
-use crate::commands::buffers_of;
 use journal_model::{Buffers, Core, Ghosts, Job, JobIds, Script, State};
 use rules_holds::{jobs_before_use, packets_of, use_of};
 use rules_state::rules_parts::buffers::{add_fence, drop_last_fence, put_item};
 use rules_state::{command_at_work, ops_of};
+use state_words::named_in;
 use std::alloc::Global;
 use ttm_base::{BufId, JobId, NoMemory, Op};
 
@@ -72,7 +72,7 @@ pub fn arm(
     let id = JobId { ctx, num };
     let command = command_at_work(script, state, thread);
     let ops = ops_of(command);
-    let bs = buffers_of(alloc, command)?;
+    let bs = named_in(alloc, command)?;
     let job = Job {
         id,
         waits: waits_at(alloc, &state.core, ops, bs.items())?,

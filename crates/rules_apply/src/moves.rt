@@ -13,22 +13,9 @@ use rules_holds::{spans_in, unfinished_before_write};
 use rules_state::rules_parts::buffers::{carry, put_item};
 use rules_state::rules_parts::lists::relisted;
 use rules_state::{buffer_in, dead_buffer, frames_of, name_in_spans, packet_place, target_spans};
+use state_words::copy_of_page;
 use std::alloc::Global;
-use ttm_base::limits::PAGE_BYTES;
-use ttm_base::{BufId, JobId, Mem, NoMemory, Packet, PagePlace, Spans};
-
-/// Returns the packet that copies a whole page.
-fn copy_of_page(to: PagePlace, from: PagePlace) -> Packet
-    ensures { result ≡ rows.copy_of_page to from }
-{
-    Packet::Copy {
-        to,
-        toff: 0,
-        from,
-        foff: 0,
-        len: PAGE_BYTES,
-    }
-}
+use ttm_base::{BufId, JobId, Mem, NoMemory, Spans};
 
 /// Returns one copy of each page of `buffer`, from where it stands to its target in the memory type `mem`.
 fn move_packets(alloc: Global, buffer: &Buffer, mem: Mem) -> Result<Packets, NoMemory>

@@ -3,10 +3,10 @@ ghost use Rattle.journal_model.specs.rules.State as words;
 ghost use Rattle.journal_model.specs.rules.Legal as legal;
 
 use journal_model::{
-    BufIds, Buffers, Commands, Core, Courses, Decl, Ghosts, Jobs, Lists, Numbers, Reservations,
-    Script, State,
+    BufIds, Buffers, Core, Decl, Ghosts, Jobs, Lists, Numbers, Reservations, Script, State,
 };
-use rules_state::{new_course, no_reservation};
+use rules_state::no_reservation;
+use state_words::first_courses;
 use std::alloc::Global;
 use ttm_base::NoMemory;
 
@@ -52,17 +52,6 @@ fn zeros(alloc: Global, count: usize) -> Result<Numbers, NoMemory>
         numbers.push(0)?;
     }
     Ok(numbers)
-}
-
-/// Returns the courses of `threads`, each at its first command.
-fn first_courses(alloc: Global, threads: &[Commands]) -> Result<Courses, NoMemory>
-    ensures { IfOk result (λ courses. courses ≡ map (λ commands. words.new_course 0) threads.now) }
-{
-    let mut courses = Courses::new(alloc);
-    for _thread in threads {
-        courses.push(new_course(alloc, 0))?;
-    }
-    Ok(courses)
 }
 
 /// Returns the state before all entries: all buffers dead, all pages free, all lists empty.

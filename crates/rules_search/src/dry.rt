@@ -2,28 +2,14 @@ ghost use Rattle.std.specs.Prelude.{◌≡◌, ◌≤◌, ◌^◌, ◌&&◌, IfO
 ghost use Rattle.journal_model.specs.rules.State.{buffer, reservation};
 ghost use Rattle.journal_model.specs.rules.Dry as words;
 
-use journal_model::{Buffer, Cause, CauseRow, Causes, Ghost, Reservation, Script, State};
+use journal_model::{Buffer, CauseRow, Causes, Ghost, Reservation, Script, State};
 use rules_holds::ghost_spans;
 use rules_state::{
-    declared_pages, has_buffer, has_target, in_order, intersects, is_frame, length_of, live_in,
-    reach_of, reservation_in, same_mem,
+    Standing, cause_of, has_buffer, in_order, intersects, is_loose, live_in, reach_of,
+    reservation_in, same_mem,
 };
 use std::alloc::Global;
 use ttm_base::{BufId, Mem, NoMemory, Place};
-
-/// Returns whether `place` has as many pages as buffer `b`.
-pub fn is_long_enough(script: &Script, b: BufId, place: Place) -> bool
-    ensures { result ≡ words.is_long_enough script.now b place }
-{
-    declared_pages(script, b) <= length_of(reach_of(script, place))
-}
-
-/// Returns whether a buffer is neither pinned nor reserved.
-pub fn is_loose(reservation: Reservation) -> bool
-    ensures { result ≡ words.is_loose reservation }
-{
-    reservation.pins == 0 && reservation.holder.is_none()
-}
 
 /// Returns whether buffer `b` stands in `place`, is neither pinned nor held, and wasn't skipped.
 pub fn is_evictable(script: &Script, state: &State, skips: &[BufId], place: Place, b: BufId) -> bool
@@ -72,20 +58,13 @@ pub fn ghost_in<'a>(script: &Script, state: &'a State, place: Place) -> Option<&
         .find(|g| intersects(ghost_spans(place.mem, g), reach))
 }
 
-/// Returns whether `buffer` has a frame.
-pub fn has_frame(buffer: &Buffer) -> bool
-    ensures { result ≡ words.has_frame buffer.now }
-{
-    buffer.table.items().iter().any(|loc| is_frame(*loc))
-}
-
 /// Returns whether buffer `b` may give its frames to swap.
 fn is_swappable(state: &State, b: BufId) -> bool
     ensures { result ≡ (words.is_loose (reservation state.now b) && words.has_frame (buffer state.now b)) }
 {
     match live_in(state.core.buffers.items(), b) {
         Some(buffer) => is_loose(reservation_in(state.reservations.items(), b))
-            && has_frame(buffer),
+            && buffer.has_frame(),
         None => false,
     }
 }
@@ -113,25 +92,6 @@ pub fn ghost_with_frame(state: &State) -> Option<&Ghost>
         .find(|g| g.frames.len() > 0)
 }
 
-/// Returns why a buffer can't be evicted: the first cause that holds.
-pub fn cause_of(script: &Script, place: Place, reservation: Reservation, buffer: &Buffer) -> Cause
-    ensures { result ≡ words.cause_of script.now place reservation buffer.now }
-{
-    if reservation.pins > 0 {
-        return Cause::Pinned;
-    }
-    match reservation.holder {
-        Some(stamp) => Cause::Reserved(stamp),
-        None => {
-            if intersects(buffer.spans.items(), reach_of(script, place)) {
-                Cause::Skipped
-            } else {
-                Cause::Outside
-            }
-        }
-    }
-}
-
 /// Returns the cause of the declared buffer `b`, if it is live and has its resource or a target in the place's manager.
 fn row_of(
     script: &Script,
@@ -143,10 +103,15 @@ fn row_of(
     ensures { result ≡ option_and_then (λ x. words.cause_row script.now reservations.now place (b, x)) slot.now }
 {
     match slot {
-        Some(buffer) if same_mem(buffer.mem, place.mem) || has_target(place.mem, buffer) => {
+        Some(buffer) if same_mem(buffer.mem, place.mem) || buffer.has_target(place.mem) => {
             Some(CauseRow {
                 b,
-                cause: cause_of(script, place, reservation_in(reservations, b), buffer),
+                cause: cause_of(
+                    script,
+                    place,
+                    reservation_in(reservations, b),
+                    buffer.spans.items(),
+                ),
             })
         }
         _ => None,

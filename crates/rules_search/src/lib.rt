@@ -7,11 +7,10 @@ mod pages;
 mod room;
 mod search;
 
-pub use dry::has_frame;
 use journal_model::Kind;
 pub use pages::{
     Swap, next_ghost, next_job, once_idle, step_of_empty, step_of_fill, step_of_give_back,
-    step_of_move, swap_out, unless_waiting,
+    step_of_move, swap_out,
 };
 pub use room::has_room;
 pub use search::step_of_place_search;

@@ -1,4 +1,4 @@
-ghost use Rattle.std.specs.Prelude.{◌≡◌, ◌+◌, ◌<◌, ◌≤◌, ◌^◌, IfOk, IfSome, None, Some, find, if◌then◌else◌, length, not, option_copied, position};
+ghost use Rattle.std.specs.Prelude.{◌≡◌, ◌+◌, ◌<◌, ◌≤◌, ◌^◌, IfOk, IfSome, None, Some, if◌then◌else◌, length, not, option_copied, position};
 ghost use Rattle.journal_model.specs.rules.State as states;
 ghost use Rattle.journal_model.specs.rules.Places.{is_frame, loc_of};
 ghost use Rattle.journal_model.specs.rules.Dry.{has_frame};
@@ -9,22 +9,16 @@ ghost use Rattle.rules_search.specs.Room.{HasRoom};
 ghost use Rattle.rules_search.specs.Swaps.{IsSwap};
 
 use crate::Step;
-use crate::dry::{ghost_with_frame, has_frame, swap_victim};
-use journal_model::{Buffer, Core, Course, Kind, Left, Script, State, Victim, Why};
+use crate::dry::{ghost_with_frame, swap_victim};
+use journal_model::{Buffer, Core, Course, Kind, Left, Script, State, Why};
 use rules_holds::{FreeSets, free_frame, free_slot, waited_before_write};
-use rules_state::{buffer_in, dead_buffer, has_target, is_caught, is_frame, loc_of, same_buffer};
+use rules_state::rules_parts::courses::why_caught;
+use rules_state::{
+    Standing, buffer_in, dead_buffer, filled_by, is_caught, is_frame, loc_of, target_to_untake,
+    unless_waiting,
+};
 use std::alloc::Global;
 use ttm_base::{BufId, JobId, Loc, Mem, Need, NoMemory};
-
-/// Returns the entry `kind`, unless `job` is waited for.
-pub fn unless_waiting(job: Option<JobId>, kind: Kind) -> Step
-    ensures { result ≡ words.unless_waiting job kind }
-{
-    match job {
-        None => Ok(kind),
-        Some(job) => Err(Need::Fence(job)),
-    }
-}
 
 /// Returns the entry `kind`, unless a job of buffer `b` isn't done.
 pub fn once_idle(alloc: Global, core: &Core, b: BufId, kind: Kind) -> Step
@@ -120,15 +114,7 @@ fn filled_with(alloc: Global, core: &Core, b: BufId, frame: u32) -> Kind
     let dead = dead_buffer(alloc);
     let buffer = buffer_in(core, b, &dead);
     let page = page_to_fill(buffer);
-    match loc_of(buffer, page) {
-        Loc::Slot(slot) => Kind::SwapIn {
-            b,
-            page,
-            slot,
-            frame,
-        },
-        Loc::Zero | Loc::Frame(_) => Kind::Populate { b, page, frame },
-    }
+    filled_by(b, page, frame, loc_of(buffer, page))
 }
 
 /// Gives the next page the lowest free frame, or without one catches a victim for swap. `free` is what is free in `state`; without it that
@@ -184,7 +170,7 @@ fn page_to_swap(alloc: Global, core: &Core, b: BufId) -> Option<u32>
 {
     let dead = dead_buffer(alloc);
     let buffer = buffer_in(core, b, &dead);
-    if has_frame(buffer) {
+    if buffer.has_frame() {
         Some(first_frame_page(buffer))
     } else {
         None
@@ -213,23 +199,6 @@ pub fn swap_out(
             let kind = Kind::SwapOut { b, page, slot };
             Ok(Swap::Page(once_idle(alloc, &state.core, b, kind)))
         }
-    }
-}
-
-/// Returns the victim among `caught` that is buffer `b`, or `None` if it isn't caught.
-fn victim_of(caught: &[Victim], b: BufId) -> Option<Victim>
-    ensures { result ≡ find (λ v. states.same_buffer b v.b) caught.now }
-{
-    caught.iter().copied().find(|v| same_buffer(b, v.b))
-}
-
-/// Returns for what buffer `b` was caught, or `None` if it wasn't.
-fn why_caught(course: &Course, b: BufId) -> Option<Why>
-    ensures { result ≡ words.why_caught course.now b }
-{
-    match victim_of(course.caught.items(), b) {
-        Some(victim) => Some(victim.why),
-        None => None,
     }
 }
 
@@ -292,19 +261,6 @@ pub fn step_of_move(script: &Script, state: &State, course: &Course, b: BufId, m
     })
 }
 
-/// Returns the target to untake: VRAM, then TT, then SYSTEM.
-fn target_to_untake(buffer: &Buffer) -> Mem
-    ensures { result ≡ words.target_to_untake buffer.now }
-{
-    if has_target(Mem::Vram, buffer) {
-        Mem::Vram
-    } else if has_target(Mem::Tt, buffer) {
-        Mem::Tt
-    } else {
-        Mem::System
-    }
-}
-
 /// Gives back what a failed search took.
 pub fn step_of_give_back(alloc: Global, state: &State, b: BufId) -> Step
     ensures { result ≡ words.step_of_give_back state.now b }
@@ -312,10 +268,10 @@ pub fn step_of_give_back(alloc: Global, state: &State, b: BufId) -> Step
     let dead = dead_buffer(alloc);
     let buffer = buffer_in(&state.core, b, &dead);
     match buffer.mem {
-        Mem::Vram if has_frame(buffer) => Ok(Kind::Depopulate { b }),
+        Mem::Vram if buffer.has_frame() => Ok(Kind::Depopulate { b }),
         _ => Ok(Kind::Untake {
             b,
-            mem: target_to_untake(buffer),
+            mem: target_to_untake(&buffer.targets),
         }),
     }
 }

@@ -5,23 +5,12 @@ ghost use Rattle.journal_model.specs.rules.Search as words;
 ghost use Rattle.rules_search.specs.Room.{HasRoom};
 
 use crate::Step;
-use crate::dry::{causes, ghost_in, is_long_enough, victim};
-use journal_model::{Course, DryWhy, Kind, Script, State, Why};
+use crate::dry::{causes, ghost_in, victim};
+use journal_model::{Course, DryWhy, Kind, Script, State};
 use rules_choice::choice;
-use rules_state::{PlaceSearch, forced_at, is_first, whole};
+use rules_state::{PlaceSearch, forced_at, is_first, is_long_enough, whole, why_of};
 use std::alloc::Global;
 use ttm_base::{BufId, FlaggedPlace, Mem, Need, NoMemory, Place, Spans};
-
-/// Returns for what a victim in the memory type `mem` is caught.
-pub fn why_of(mem: Mem) -> Why
-    ensures { result ≡ words.why_of mem }
-{
-    match mem {
-        Mem::Vram => Why::Vram,
-        Mem::Tt => Why::Tt,
-        Mem::System => Why::Swap,
-    }
-}
 
 /// Returns the step at the `k`-th forced place, which has no choice: it is too short, a buffer is caught there, a ghost is waited for, or
 /// it is dry.

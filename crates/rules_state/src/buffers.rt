@@ -75,13 +75,6 @@ pub fn buffer_in<'a>(core: &'a Core, b: BufId, dead: &'a Buffer) -> &'a Buffer
     }
 }
 
-/// Returns whether `buffer` has a target in the memory type `mem`.
-pub fn has_target(mem: Mem, buffer: &Buffer) -> bool
-    ensures { result ≡ words.has_target mem buffer.now }
-{
-    target_of(mem, &buffer.targets).is_some()
-}
-
 /// Returns the spans of the target that `buffer` has in the memory type `mem`, none if it has no target there.
 pub fn target_spans(mem: Mem, buffer: &Buffer) -> &[Span]
     ensures { result.now ≡ words.target_spans mem buffer.now }

@@ -1,12 +1,11 @@
 ghost use Rattle.std.specs.Prelude.{◌≡◌, IfOk, option_copied};
-ghost use Rattle.journal_model.specs.rules.ApplyJobs as jobs;
 ghost use Rattle.journal_model.specs.rules.Commands as words;
 
 use crate::buffers::course_of;
 use journal_model::{Command, Script, State};
 use state_words::{commands_of, declared_places, unflagged, whole};
 use std::alloc::Global;
-use ttm_base::{BufId, FlaggedPlaces, Mem, NoMemory, Op};
+use ttm_base::{BufId, FlaggedPlaces, Mem, NoMemory};
 
 /// Returns the command of `script` that the thread numbered `thread` is at in `state`, or `None` if it is at none.
 pub fn command_at_work<'a>(script: &'a Script, state: &State, thread: u32) -> Option<&'a Command>
@@ -15,16 +14,6 @@ pub fn command_at_work<'a>(script: &'a Script, state: &State, thread: u32) -> Op
     match course_of(state, thread) {
         Some(course) => commands_of(script, thread).get(course.answered as usize),
         None => None,
-    }
-}
-
-/// Returns the operations of `command` if it is a job, else none.
-pub fn ops_of(command: Option<&Command>) -> &[Op]
-    ensures { result.now ≡ jobs.ops_of (option_copied command.entry) }
-{
-    match command {
-        Some(Command::Submit { ops, .. }) => ops.items(),
-        _ => &[],
     }
 }
 

@@ -1,13 +1,12 @@
 ghost use Rattle.std.specs.Prelude.{◌≡◌, IfOk};
 ghost use Rattle.journal_model.specs.rules.State.{new_buffer};
-ghost use Rattle.journal_model.specs.rules.Ready as ready;
 ghost use Rattle.journal_model.specs.rules.Search as words;
 ghost use Rattle.rules_state.specs.PlaceSearches.{place_search_of};
 
-use crate::buffers::{buffer_in, dead_buffer, has_target};
+use crate::buffers::{buffer_in, dead_buffer};
 use crate::commands::asked_places;
-use journal_model::{Buffer, Command, Course, Script, SearchAim, State};
-use state_words::{as_fallback, is_caught, whole};
+use journal_model::{Command, Course, Script, SearchAim, State};
+use state_words::{as_fallback, has_some_target, is_caught, whole};
 use std::alloc::Global;
 use ttm_base::{BufId, FlaggedPlaces, Mem, NoMemory};
 
@@ -17,13 +16,6 @@ pub struct PlaceSearch {
     pub list: FlaggedPlaces,
     pub forced: bool,
     pub dry: u32,
-}
-
-/// Returns whether `buffer` has a target in some memory type.
-pub fn has_some_target(buffer: &Buffer) -> bool
-    ensures { result ≡ ready.has_some_target buffer.now }
-{
-    has_target(Mem::System, buffer) || has_target(Mem::Tt, buffer) || has_target(Mem::Vram, buffer)
 }
 
 /// Returns the search of the buffer `b` for a command: the places that the command asks for, or for a hop between SYSTEM and VRAM all of

@@ -3,3 +3,4 @@ pub mod PageLaws
 pub mod ListSteps
 pub mod ListLaws
 pub mod Pins
+pub mod LastLaws

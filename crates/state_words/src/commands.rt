@@ -1,4 +1,6 @@
-ghost use Rattle.std.specs.Prelude.{◌≡◌, ◌∷◌, [], IfOk, flat_map};
+ghost use Rattle.std.specs.Prelude.{◌≡◌, ◌∷◌, [], IfOk, flat_map, option_copied};
+ghost use Rattle.journal_model.specs.rules.ApplyCommands as rows;
+ghost use Rattle.journal_model.specs.rules.ApplyJobs as jobs;
 ghost use Rattle.journal_model.specs.rules.Commands as words;
 
 use crate::buffers::{has_buffer, same_buffer};
@@ -136,6 +138,26 @@ pub fn named(alloc: Global, command: &Command) -> Result<BufIds, NoMemory>
             let bs = mentions(alloc, ops.items())?;
             first_mentions(alloc, bs.items())
         }
+    }
+}
+
+/// Returns the buffers that `command` names, or none where there is no command.
+pub fn named_in(alloc: Global, command: Option<&Command>) -> Result<BufIds, NoMemory>
+    ensures { IfOk result (λ bs. bs ≡ rows.named_in (option_copied command.entry)) }
+{
+    match command {
+        Some(command) => named(alloc, command),
+        None => Ok(BufIds::new(alloc)),
+    }
+}
+
+/// Returns the operations of `command` if it is a job, else none.
+pub fn ops_of(command: Option<&Command>) -> &[Op]
+    ensures { result.now ≡ jobs.ops_of (option_copied command.entry) }
+{
+    match command {
+        Some(Command::Submit { ops, .. }) => ops.items(),
+        _ => &[],
     }
 }
 

@@ -1,6 +1,7 @@
-ghost use Rattle.std.specs.Prelude.{◌≡◌, ◌+◌, ◌^◌, ◌<◌, filter, map, not, OnOk, OnErr};
+ghost use Rattle.std.specs.Prelude.{◌≡◌, ◌+◌, ◌^◌, ◌<◌, filter, find, map, not, OnOk, OnErr};
 ghost use Rattle.journal_model.specs.rules.Search as searches;
 ghost use Rattle.journal_model.specs.rules.State as state;
+ghost use Rattle.journal_model.specs.rules.PageSteps as steps;
 ghost use Rattle.journal_model.specs.rules.ApplyPages.{search_over};
 ghost use Rattle.journal_model.specs.rules.ApplyVictims.{failed_if, with_fail, no_longer_caught, with_victim, with_skip, forces, gone_dry};
 
@@ -18,6 +19,23 @@ pub fn is_caught(course: &Course, b: BufId) -> bool
         .iter()
         .map(|v| v.b)
         .any(|c| same_buffer(b, c))
+}
+
+/// Returns the victim among `caught` that is buffer `b`, or None if it isn't caught.
+fn victim_of(caught: &[Victim], b: BufId) -> Option<Victim>
+    ensures { result ≡ find (λ v. state.same_buffer b v.b) caught.now }
+{
+    caught.iter().copied().find(|v| same_buffer(b, v.b))
+}
+
+/// Returns for what buffer `b` was caught, or None if it wasn't.
+pub fn why_caught(course: &Course, b: BufId) -> Option<Why>
+    ensures { result ≡ steps.why_caught course.now b }
+{
+    match victim_of(course.caught.items(), b) {
+        Some(victim) => Some(victim.why),
+        None => None,
+    }
 }
 
 /// Ends the search for a place for the buffer `b`, which the command names. Where `b` is a victim nothing changes.

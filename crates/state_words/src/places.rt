@@ -1,7 +1,11 @@
-ghost use Rattle.std.specs.Prelude.{◌≡◌, slice_get};
+ghost use Rattle.std.specs.Prelude.{◌≡◌, map, slice_get};
+ghost use Rattle.journal_model.specs.rules.ApplyMoves as moves;
+ghost use Rattle.journal_model.specs.rules.ApplyPages.{without_frame};
 ghost use Rattle.journal_model.specs.rules.Places as words;
 
-use ttm_base::{Loc, Mem, PagePlace, Span};
+use journal_model::Table;
+use ttm_base::limits::PAGE_BYTES;
+use ttm_base::{Loc, Mem, Packet, PagePlace, Span};
 
 /// Returns the page of the spans at position `i`, or None where they have no more than `i` pages.
 pub fn page_at(spans: &[Span], i: u32) -> Option<u32>
@@ -60,5 +64,37 @@ pub fn name_in_spans(mem: Mem, spans: &[Span], i: u32) -> PagePlace
         Mem::Vram => PagePlace::Vram(page_of_spans(spans, i)),
         Mem::Tt => PagePlace::Aper(page_of_spans(spans, i)),
         Mem::System => PagePlace::Frame(0),
+    }
+}
+
+/// Returns the packet that copies the page `from` to the page `to`.
+pub fn copy_of_page(to: PagePlace, from: PagePlace) -> Packet
+    ensures { result ≡ moves.copy_of_page to from }
+{
+    Packet::Copy {
+        to,
+        toff: 0,
+        from,
+        foff: 0,
+        len: PAGE_BYTES,
+    }
+}
+
+/// Returns the place of a page at `place` once its frame was given back: a slot stays.
+fn without_its_frame(place: Loc) -> Loc
+    ensures { result ≡ without_frame place }
+{
+    match place {
+        Loc::Frame(_) | Loc::Zero => Loc::Zero,
+        Loc::Slot(slot) => Loc::Slot(slot),
+    }
+}
+
+/// Takes the frames out of a page table. Slots stay.
+pub fn drop_frames(table: &mut Table)
+    ensures { table.new ≡ map without_frame table.old }
+{
+    for i in 0..table.len() {
+        table.set(i, without_its_frame(table.at(i)));
     }
 }

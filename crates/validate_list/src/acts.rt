@@ -6,7 +6,6 @@ ghost use Rattle.journal_model.specs.declared.entry.Kind.TheVariants as kind;
 ghost use Rattle.journal_model.specs.declared.entry.Shown.TheVariants as shown;
 ghost use Rattle.journal_model.specs.declared.state.Stage.TheVariants as stage;
 ghost use Rattle.journal_model.specs.declared.state.Task.TheVariants as task;
-ghost use Rattle.journal_model.specs.rules.PageSteps as steps;
 ghost use Rattle.journal_model.specs.rules.Tasks.{task_of, stage_of};
 ghost use Rattle.laws.specs.lemma_bytes_told.Told.{IsThere};
 ghost use Rattle.room_state.specs.room_turns.Turns.{state_behind};
@@ -14,13 +13,13 @@ ghost use Rattle.room_state.specs.room_turns.Acting.{entry_by, free_due, job_awa
 ghost use Rattle.room_state.specs.room_turns.Turns.{after_step, entry_of, step_of};
 ghost use Rattle.validate_list.specs.Acts.{act_of, IsActing};
 
-use crate::buffers::lent;
 use crate::enact::{Next, enact};
 use copy_packet::ProbeBytes;
 use journal_model::{Bytes, Command, Kind, Shown, Task};
 use room_state::room_turns::{Rooms, Step};
+use state_words::unless_waiting;
 use std::alloc::Global;
-use ttm_base::{BufId, Deny, JobId, Need, NoMemory, Usage};
+use ttm_base::{BufId, Deny, Need, NoMemory, Usage};
 
 /// Returns an answer that shows nothing.
 fn plain() -> Kind
@@ -28,16 +27,6 @@ fn plain() -> Kind
 {
     Kind::Result {
         shown: Shown::Plain,
-    }
-}
-
-/// Returns the entry of `kind`, unless `job` must be waited for first.
-fn unless_waiting(job: Option<JobId>, kind: Kind) -> Next
-    ensures { result ≡ steps.unless_waiting job kind }
-{
-    match job {
-        None => Ok(kind),
-        Some(job) => Err(Need::Fence(job)),
     }
 }
 
@@ -69,7 +58,7 @@ fn kind_of_find(rooms: &Rooms, b: BufId) -> Result<Kind, NoMemory>
     requires { IsThere (state_behind rooms.now) b }
     ensures { IfOk result (λ shows. act_of rooms.now (command.Find b) ≡ Ok shows) }
 {
-    let bo = lent(rooms, b);
+    let bo = rooms.lent(b);
     let spans = bo.spans.copy()?;
     let shown = Shown::Find { mem: bo.mem, spans };
     Ok(Kind::Result { shown })
@@ -82,7 +71,7 @@ fn kind_of_swapped(rooms: &Rooms, b: BufId) -> Kind
     requires done { swaps rooms.now.script (state_behind rooms.now) (Some (command.SwapOut b)) ≡ false }
     ensures { act_of rooms.now (command.SwapOut b) ≡ Ok result }
 {
-    if lent(rooms, b).table.has_frame() {
+    if rooms.lent(b).table.has_frame() {
         Kind::Refused { deny: Deny::NoSwap }
     } else {
         plain()

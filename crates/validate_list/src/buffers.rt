@@ -1,11 +1,7 @@
 ghost use Rattle.std.specs.Prelude.{◌≡◌};
 ghost use Rattle.journal_model.specs.rules.State as state;
-ghost use Rattle.laws.specs.lemma_bytes_told.Told.{IsThere};
 ghost use Rattle.room_state.specs.room_turns.Turns.{state_behind};
-ghost use Rattle.room_representation.specs.room_steps.Lent.{as_buffer};
-ghost use Rattle.room_representation.specs.Bos.{unfenced};
 
-use bo_table::Bo;
 use room_state::room_turns::Rooms;
 use ttm_base::{BufId, Stamp};
 
@@ -31,12 +27,4 @@ pub(crate) fn holder_of(rooms: &Rooms, b: BufId) -> Option<Stamp>
     } else {
         None
     }
-}
-
-/// Returns buffer `b`, which is live.
-pub(crate) fn lent(rooms: &Rooms, b: BufId) -> &Bo
-    requires { IsThere (state_behind rooms.now) b }
-    ensures { as_buffer result.now ≡ unfenced (state.buffer (state_behind rooms.now) b) }
-{
-    rooms.parts().bos.get(b)
 }

@@ -16,7 +16,7 @@ use lru_bulk::Lru;
 use page_pool::PagePool;
 use resource_core::{PagesKind, RangeRoom, VramRoom};
 use room_representation::{Ghosts, Parts};
-use state_words::new_course;
+use state_words::first_courses;
 use std::alloc::Global;
 use swap_store::SwapStore;
 use ttm_base::NoMemory;
@@ -99,17 +99,6 @@ fn first_buffers(alloc: Global, script: &Script) -> Result<Buffers, NoMemory>
     let bos = BoTable::new(alloc, script.buffers.items(), script.sizes.engines + 1)?;
     let lru = Lru::new(alloc, script.buffers.len() as u32, GROUPS)?;
     Ok(Buffers { bos, lru })
-}
-
-/// Makes a course for each of `threads`, which is at its first command.
-fn first_courses(alloc: Global, threads: &[Commands]) -> Result<Courses, NoMemory>
-    ensures { IfOk result (λ courses. courses ≡ map (λ commands. words.new_course 0) threads.now) }
-{
-    let mut courses = Courses::new(alloc);
-    for _thread in threads {
-        courses.push(new_course(alloc, 0))?;
-    }
-    Ok(courses)
 }
 
 /// Makes the timeline and the rings without a job, and puts each thread at its first command.

@@ -10,10 +10,10 @@ ghost use Rattle.room_representation.specs.room_steps.Courses.{course_at};
 
 use crate::room_tasks::ready::unready;
 use crate::room_tasks::standing::live;
-use crate::room_tasks::tasks::{can_give, refusal, task_of_command};
+use crate::room_tasks::tasks::{refusal, task_of_command};
 use journal_model::{Command, Course, Courses, Entry, Script, Task};
 use room_representation::Parts;
-use state_words::commands_of;
+use state_words::{commands_of, tasks};
 use ttm_base::{BufId, Deny};
 
 /// Returns the course of `thread`, or None where there is no such thread. Threads are numbered from 1.
@@ -66,7 +66,7 @@ pub fn gives_back(parts: &Parts, script: &Script, before: &[Entry], b: BufId) ->
     requires { AreHeld script.now before.now parts.now }
     ensures { result ≡ words.gives_back (buffer (state_of script.now before.now) b) }
 {
-    can_give(live(&parts.bos, b))
+    tasks::gives_back(&live(&parts.bos, b))
 }
 
 /// Returns what `thread` has to do next, which is nothing where there is no such thread. Takes time by the operations of its command and the buffers

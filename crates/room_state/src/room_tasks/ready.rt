@@ -1,65 +1,15 @@
 ghost use Rattle.std.specs.Prelude.{◌≡◌, find, flat_map};
-ghost use Rattle.std.specs.Option.{option_copied};
 ghost use Rattle.journal_model.specs.rules.Commands.{buffers_of_op};
 ghost use Rattle.journal_model.specs.rules.Ready as words;
-ghost use Rattle.room_state.specs.room_tasks.Seen.{is_unready, seen, standing, AreReady, HasReservations};
+ghost use Rattle.room_state.specs.room_tasks.Seen.{is_unready, seen, AreReady, HasReservations};
 
 use crate::room_tasks::mentions::{buffers_of, mentions_of};
-use crate::room_tasks::standing::{has_all_frames, has_some_target, live, mem_of, spans_of};
-use bo_table::{Bo, BoTable};
+use crate::room_tasks::standing::live;
+use bo_table::BoTable;
 use journal_model::{Command, Script};
-use state_words::{compatible, declared_places, same_mem, size_of};
+use state_words::{is_filled, is_in_place};
 use ttm_base::limits::MAX_BUFFERS;
-use ttm_base::{BufId, Mem, Op};
-
-/// Returns whether the buffer stands where its declared placement lets it. Takes time by its spans and its places.
-fn is_well_placed(script: &Script, b: BufId, bo: Option<&Bo>) -> bool
-    ensures { result ≡ words.is_well_placed script.now b (standing (option_copied bo.entry)) }
-{
-    let mem = mem_of(bo);
-    compatible(
-        mem,
-        spans_of(bo),
-        declared_places(script, b),
-        size_of(script, mem),
-    )
-}
-
-/// Returns whether the buffer stands where `command` wants it.
-fn meets(script: &Script, command: &Command, b: BufId, bo: Option<&Bo>) -> bool
-    ensures { result ≡ words.meets script.now command.now b (standing (option_copied bo.entry)) }
-{
-    match command {
-        Command::Submit { .. } | Command::Find { .. } => is_well_placed(script, b, bo),
-        Command::Move { mem, .. } => same_mem(mem_of(bo), *mem),
-        Command::SwapOut { .. } => same_mem(mem_of(bo), Mem::System),
-        _ => true,
-    }
-}
-
-/// Returns whether the buffer has no target and stands where `command` wants it.
-pub(crate) fn is_in_place(script: &Script, command: &Command, b: BufId, bo: Option<&Bo>) -> bool
-    ensures { result ≡ words.is_in_place script.now command.now b (standing (option_copied bo.entry)) }
-{
-    !has_some_target(bo) && meets(script, command, b, bo)
-}
-
-/// Returns whether `command` reads or writes the bytes of its buffers.
-fn uses_bytes(command: &Command) -> bool
-    ensures { result ≡ words.uses_bytes command.now }
-{
-    matches!(
-        command,
-        Command::Submit { .. } | Command::Write { .. } | Command::Read { .. }
-    )
-}
-
-/// Returns whether each page that `command` may use has a frame, where the buffer stands in SYSTEM.
-fn is_filled(command: &Command, bo: Option<&Bo>) -> bool
-    ensures { result ≡ words.is_filled command.now (standing (option_copied bo.entry)) }
-{
-    !uses_bytes(command) || !same_mem(mem_of(bo), Mem::System) || has_all_frames(bo)
-}
+use ttm_base::{BufId, Op};
 
 /// Returns whether buffer `b` is in place and filled.
 fn is_ready(script: &Script, bos: &BoTable, command: &Command, b: BufId) -> bool
@@ -67,7 +17,7 @@ fn is_ready(script: &Script, bos: &BoTable, command: &Command, b: BufId) -> bool
     ensures { result ≡ words.is_ready script.now (seen bos.now) command.now b }
 {
     let bo = live(bos, b);
-    is_in_place(script, command, b, bo) && is_filled(command, bo)
+    is_in_place(script, command, b, &bo) && is_filled(command, &bo)
 }
 
 /// Returns whether buffer `b` isn't ready. One that `known` marks as ready isn't tested, and one that is found ready is marked.

@@ -9,6 +9,7 @@ ghost use Rattle.journal_model.specs.rules.ApplyMoves.{moved, table_left};
 ghost use Rattle.rules_state.specs.rules_parts.Undo.{without_last_fence};
 
 use journal_model::{Buffers, Table, Targets};
+use state_words::{drop_frames, set_target};
 use std::alloc::Global;
 use ttm_base::{BufId, Fence, ItemList, JobId, Loc, Mem, NoMemory, Spans, Usage};
 
@@ -33,17 +34,6 @@ pub fn set_page(buffers: &mut Buffers, b: BufId, page: u32, place: Loc)
                 buffer.table.set(page as usize, place);
             }
         }
-    }
-}
-
-/// Sets the target in the memory type `mem` to `spans`, or to none.
-pub fn set_target(targets: &mut Targets, mem: Mem, spans: Option<Spans>)
-    ensures { targets.new ≡ with_target mem spans targets.old }
-{
-    match mem {
-        Mem::System => targets.system = spans,
-        Mem::Tt => targets.tt = spans,
-        Mem::Vram => targets.vram = spans,
     }
 }
 
@@ -83,25 +73,6 @@ pub fn drop_target(buffers: &mut Buffers, b: BufId, mem: Mem)
         if let Some(buffer) = buffers.get_mut(index) {
             set_target(&mut buffer.targets, mem, None);
         }
-    }
-}
-
-/// Returns the place of a page at `place` once its frame was given back: a slot stays.
-fn without_its_frame(place: Loc) -> Loc
-    ensures { result ≡ without_frame place }
-{
-    match place {
-        Loc::Frame(_) | Loc::Zero => Loc::Zero,
-        Loc::Slot(slot) => Loc::Slot(slot),
-    }
-}
-
-/// Takes the frames out of a page table. Slots stay.
-pub fn drop_frames(table: &mut Table)
-    ensures { table.new ≡ map without_frame table.old }
-{
-    for i in 0..table.len() {
-        table.set(i, without_its_frame(table.at(i)));
     }
 }
 

@@ -26,5 +26,5 @@ returns c =
     lent_is r.script (state_behind r) c.args.skips.now c.args.place c.args.b c.bos-bos.result.now c.bos-bos.ensures bo c.get-bo.ensures c.passes.result
     (c.passes.ensures
     ∙ ap (λ x. (x && c.is_loose-loose.result) && not c.has_buffer-skipped.result) (c.stands_in-stands.ensures ∙ ap (stands_in bo c.args.place.mem) reached)
-    ∙ ap (λ x. (stands_in bo c.args.place.mem (reach_of r.script c.args.place) && x) && not c.has_buffer-skipped.result) c.is_loose-loose.ensures
+    ∙ ap (λ x. (stands_in bo c.args.place.mem (reach_of r.script c.args.place) && x) && not c.has_buffer-skipped.result) (c.is_loose-loose.ensures ∙ ap is_loose c.reservation.ensures)
     ∙ ap (λ x. (stands_in bo c.args.place.mem (reach_of r.script c.args.place) && is_loose (reservation_of bo)) && not x) c.has_buffer-skipped.ensures)

@@ -7,4 +7,4 @@ pub live-requires : goal.live-requires
 live-requires c = has_reservations c.args.script.now c.args.before.now c.args.parts.now c.requires
 
 pub returns : goal.returns
-returns c = c.can_give.ensures ∙ ap words.gives_back c.live.ensures ∙ gives_told c.args.script.now c.args.before.now c.args.parts.now c.requires c.args.b
+returns c = c.gives_back.ensures ∙ ap words.gives_back c.live.ensures ∙ gives_told c.args.script.now c.args.before.now c.args.parts.now c.requires c.args.b

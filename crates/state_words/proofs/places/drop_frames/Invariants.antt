@@ -1,7 +1,7 @@
 use Rattle.std.proofs.Common.{◌≡◌, ◌++◌, take, drop, length}
 use Rattle.std.specs.Prelude.{map}
 use Rattle.journal_model.specs.rules.ApplyPages.{without_frame}
-use Rattle.rules_state.proofs.rules_parts.buffers.drop_frames.Given as goal
+use Rattle.state_words.proofs.places.drop_frames.Given as goal
 
 abbrev pub invariant-loop-i : goal.invariant-loop-i
 invariant-loop-i l =
