@@ -14,11 +14,12 @@ use journal_model::{Bytes, Command, Course, Job, Kind, Script, Shown, State, Tas
 use rules_holds::{FreeSets, is_idle, waited_before_read, waited_for};
 use rules_search::{
     Step, Swap, next_ghost, next_job, once_idle, step_of_empty, step_of_fill, step_of_give_back,
-    step_of_move, step_of_place_search, swap_out, unless_waiting,
+    step_of_move, step_of_place_search, swap_out,
 };
 use rules_state::{
     buffer_in, command_at_work, course_of, dead_buffer, is_live, place_search_for, reservation_in,
 };
+use state_words::unless_waiting;
 use std::alloc::Global;
 use ttm_base::{Actor, BufId, Deny, Need, NoMemory, Stamp};
 

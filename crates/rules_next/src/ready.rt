@@ -3,62 +3,10 @@ ghost use Rattle.journal_model.specs.rules.State.{new_buffer};
 ghost use Rattle.journal_model.specs.rules.Ready as words;
 
 use journal_model::{Buffer, Command, Script, State};
-use rules_state::{
-    buffer_in, compatible, dead_buffer, declared_places, has_some_target, is_frame, named,
-    same_mem, size_of,
-};
+use rules_state::{buffer_in, dead_buffer, named};
+use state_words::{is_filled, is_in_place};
 use std::alloc::Global;
-use ttm_base::{BufId, Mem, NoMemory};
-
-/// Returns whether each page of `buffer` has a frame.
-pub fn has_all_frames(buffer: &Buffer) -> bool
-    ensures { result ≡ words.has_all_frames buffer.now }
-{
-    buffer.table.items().iter().all(|loc| is_frame(*loc))
-}
-
-/// Returns whether buffer `b` stands where its declared placement lets it.
-pub fn is_well_placed(script: &Script, b: BufId, buffer: &Buffer) -> bool
-    ensures { result ≡ words.is_well_placed script.now b buffer.now }
-{
-    compatible(
-        buffer.mem,
-        buffer.spans.items(),
-        declared_places(script, b),
-        size_of(script, buffer.mem),
-    )
-}
-
-/// Returns whether buffer `b` stands where `command` wants it.
-pub fn meets(script: &Script, command: &Command, b: BufId, buffer: &Buffer) -> bool
-    ensures { result ≡ words.meets script.now command.now b buffer.now }
-{
-    match command {
-        Command::Submit { .. } | Command::Find { .. } => is_well_placed(script, b, buffer),
-        Command::Move { mem, .. } => same_mem(buffer.mem, *mem),
-        Command::SwapOut { .. } => same_mem(buffer.mem, Mem::System),
-        _ => true,
-    }
-}
-
-/// Returns whether buffer `b` has no target and stands where `command` wants it.
-pub fn is_in_place(script: &Script, command: &Command, b: BufId, buffer: &Buffer) -> bool
-    ensures { result ≡ words.is_in_place script.now command.now b buffer.now }
-{
-    !has_some_target(buffer) && meets(script, command, b, buffer)
-}
-
-/// Returns whether in SYSTEM each page of `buffer` has a frame, for a command that may read or write its bytes.
-pub fn is_filled(command: &Command, buffer: &Buffer) -> bool
-    ensures { result ≡ words.is_filled command.now buffer.now }
-{
-    match command {
-        Command::Submit { .. } | Command::Write { .. } | Command::Read { .. } => {
-            !same_mem(buffer.mem, Mem::System) || has_all_frames(buffer)
-        }
-        _ => true,
-    }
-}
+use ttm_base::{BufId, NoMemory};
 
 /// Returns whether buffer `b` is in place and filled. `dead`, the buffer without pages, stands for one that isn't live.
 fn is_ready(script: &Script, state: &State, command: &Command, b: BufId, dead: &Buffer) -> bool

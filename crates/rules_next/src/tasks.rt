@@ -1,30 +1,15 @@
 ghost use Rattle.std.specs.Prelude.{◌≡◌, IfOk, find, not};
-ghost use Rattle.ttm_base.specs.ListWords.{last_of};
 ghost use Rattle.journal_model.specs.rules.State.{new_buffer, has_buffer};
 ghost use Rattle.journal_model.specs.rules.Tasks as words;
 
-use crate::ready::{first_unready, has_all_frames, is_in_place};
-use journal_model::{
-    Buffer, Command, Course, Reservation, Script, SearchAim, State, Task, Victim, Why,
-};
-use rules_search::has_frame;
-use rules_state::{
-    buffer_in, dead_buffer, has_buffer, has_some_target, has_target, named, reservation_in,
-    same_mem,
-};
+use crate::ready::first_unready;
+use journal_model::{Buffer, Command, Course, Script, State, Task};
+use rules_state::{buffer_in, dead_buffer, has_buffer, named, reservation_in};
+use state_words::is_in_place;
+use state_words::tasks::{gives_back, last_caught, starts, task_of_misplaced, task_of_victim};
 use std::alloc::Global;
 use ttm_base::limits::MAX_PINS;
-use ttm_base::{BufId, Deny, Mem, NoMemory};
-
-/// Returns whether the command is at its first step. New and touch take no ticket; each other command begins with one.
-pub fn starts(course: &Course, command: &Command) -> bool
-    ensures { result ≡ words.starts course.now command.now }
-{
-    match command {
-        Command::New { .. } | Command::Touch { .. } => true,
-        _ => course.stamp.is_none(),
-    }
-}
+use ttm_base::{BufId, Deny, NoMemory};
 
 /// Returns the first buffer of `bs` that isn't among `held`.
 fn first_unheld(held: &[BufId], bs: &[BufId]) -> Option<BufId>
@@ -49,72 +34,6 @@ pub fn first_missing(
     }
     let bs = named(alloc, command)?;
     Ok(first_unheld(held, bs.items()))
-}
-
-/// Returns the task `next`, or first the task to fill buffer `b` where a page has no frame.
-pub fn filled_then(next: Task, b: BufId, buffer: &Buffer) -> Task
-    ensures { result ≡ words.filled_then next b buffer.now }
-{
-    if has_all_frames(buffer) {
-        next
-    } else {
-        Task::Fill(b)
-    }
-}
-
-/// Returns whether something that a search took can be given back.
-pub fn gives_back(buffer: &Buffer) -> bool
-    ensures { result ≡ words.gives_back buffer.now }
-{
-    (same_mem(buffer.mem, Mem::Vram) && has_frame(buffer)) || has_some_target(buffer)
-}
-
-/// Returns the task for a victim that is to leave VRAM: it goes through TT, or it gives back what its search took and is skipped.
-fn task_in_vram(victim: Victim, buffer: &Buffer) -> Task
-    ensures { result ≡ words.task_in_vram victim buffer.now }
-{
-    let b = victim.b;
-    if victim.fail.is_some() {
-        if gives_back(buffer) {
-            Task::GiveBack(b)
-        } else {
-            Task::Skip(b)
-        }
-    } else if has_target(Mem::Tt, buffer) {
-        filled_then(Task::Move { b, mem: Mem::Tt }, b, buffer)
-    } else {
-        Task::Search {
-            b,
-            aim: SearchAim::Hop,
-        }
-    }
-}
-
-/// Returns the last of the victims `caught`.
-#[tactic(auto, using(crate::proofs::LastLaws::last_of_at))]
-fn last_caught(caught: &[Victim]) -> Option<Victim>
-    ensures { result ≡ last_of caught.now }
-{
-    caught.last().copied()
-}
-
-/// Returns what is to be done with the last victim that was caught.
-fn task_of_victim(victim: Victim, buffer: &Buffer) -> Task
-    ensures { result ≡ words.task_of_victim victim buffer.now }
-{
-    if has_target(Mem::System, buffer) {
-        return Task::Unbind(victim.b);
-    }
-    match victim.why {
-        Why::Tt | Why::Swap => Task::Empty(victim.b),
-        Why::Vram => {
-            if same_mem(buffer.mem, Mem::Vram) {
-                task_in_vram(victim, buffer)
-            } else {
-                Task::Empty(victim.b)
-            }
-        }
-    }
 }
 
 /// Returns why `command` is denied for the pins of its buffer, or `None` if it isn't.
@@ -148,59 +67,6 @@ fn task_of_failed(
     match unready {
         Some(b) if gives_back(buffer_in(&state.core, b, &dead)) => Ok(Task::GiveBack(b)),
         _ => Ok(Task::GiveUp(deny)),
-    }
-}
-
-/// Returns how buffer `b`, which has targets, goes on, by where it stands.
-fn carried(b: BufId, buffer: &Buffer) -> Task
-    ensures { result ≡ words.carried buffer.now.mem b buffer.now }
-{
-    match buffer.mem {
-        Mem::System => {
-            if has_target(Mem::Tt, buffer) {
-                filled_then(Task::Bind(b), b, buffer)
-            } else {
-                Task::Search {
-                    b,
-                    aim: SearchAim::Hop,
-                }
-            }
-        }
-        Mem::Tt => {
-            if has_target(Mem::System, buffer) || has_target(Mem::Tt, buffer) {
-                Task::Unbind(b)
-            } else {
-                Task::Move { b, mem: Mem::Vram }
-            }
-        }
-        Mem::Vram => {
-            if has_target(Mem::Vram, buffer) {
-                Task::Move { b, mem: Mem::Vram }
-            } else if has_target(Mem::Tt, buffer) {
-                filled_then(Task::Move { b, mem: Mem::Tt }, b, buffer)
-            } else {
-                Task::Search {
-                    b,
-                    aim: SearchAim::Hop,
-                }
-            }
-        }
-    }
-}
-
-/// Returns the task for buffer `b`, which isn't in place.
-fn task_of_misplaced(b: BufId, reservation: Reservation, buffer: &Buffer) -> Task
-    ensures { result ≡ words.task_of_misplaced b reservation buffer.now }
-{
-    if reservation.pins > 0 {
-        Task::Refuse(Deny::Pinned)
-    } else if has_some_target(buffer) {
-        carried(b, buffer)
-    } else {
-        Task::Search {
-            b,
-            aim: SearchAim::Asked,
-        }
     }
 }
 

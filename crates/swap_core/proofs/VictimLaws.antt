@@ -1,6 +1,6 @@
--- The first buffer that may give its frames, on the lists of SYSTEM or else on those of TT, found by a walk.
-use Rattle.std.proofs.Common.{◌≡◌, ◌∷◌, ◌++◌, Bool, true, false, List, Option, Some, None, refl, sym, ◌∙◌, ap}
-use Rattle.std.specs.Prelude.{◌&&◌, find, is_some, if◌then◌else◌}
+-- The first buffer that may give its frames, on the lists of SYSTEM or else on those of TT.
+use Rattle.std.proofs.Common.{◌≡◌, ◌++◌, Bool, true, false, List, Option, Some, None, sym, ◌∙◌, ap}
+use Rattle.std.specs.Prelude.{◌&&◌, find, is_some}
 use Rattle.std.specs.Option.{option_or}
 use Rattle.std.proofs.lemmas.List.Folds.{find-append}
 use Rattle.ttm_base.specs.declared.BufId.{BufId}
@@ -10,24 +10,7 @@ use Rattle.journal_model.specs.declared.state.State.{State}
 use Rattle.journal_model.specs.rules.State.{buffer, reservation}
 use Rattle.journal_model.specs.rules.Dry.{has_frame, is_loose, swap_victim}
 use Rattle.journal_model.specs.rules.Lists as state
-use Rattle.swap_core.specs.Rests.{in_order}
-
-module _ {X : Type 0} (p : X → Bool) (left rest : List X) (x : X) (goes : left ≡ x ∷ rest) where
-  pub find_here : p x ≡ true → find p left ≡ Some x
-  find_here h = ap (find p) goes ∙ by (p x) h
-    where
-      by : (q : Bool) → q ≡ true → (if q then Some x else find p rest) ≡ Some x
-      by true e = refl
-      by false e = cc
-
-  pub find_past : p x ≡ false → find p rest ≡ find p left
-  find_past h = sym (ap (find p) goes ∙ by (p x) h)
-    where
-      by : (q : Bool) → q ≡ false → (if q then Some x else find p rest) ≡ find p rest
-      by false e = refl
-      by true e = cc
-
--- ---- one list after another
+use Rattle.room_state.specs.room_turns.Rests.{in_order}
 
 module _ {X : Type 0} (p : X → Bool) (xs ys : List X) where
   pub found_first : (o : Option X) → o ≡ find p xs → is_some o ≡ true → o ≡ find p (xs ++ ys)

@@ -1,15 +1,14 @@
 ghost use Rattle.std.specs.Prelude.{◌≡◌, ◌&&◌, find, option_copied};
 ghost use Rattle.ttm_base.specs.declared.Mem.TheVariants.{Vram};
 ghost use Rattle.ttm_base.specs.Reach.{same_mem};
-ghost use Rattle.bo_table.specs.Seen.{reservation_of};
 ghost use Rattle.journal_model.specs.rules.State.{buffer, reservation};
 ghost use Rattle.journal_model.specs.rules.Dry as words;
 ghost use Rattle.room_state.specs.room_turns.Turns.{state_behind};
 ghost use Rattle.swap_core.specs.Lent.{IsLent};
 
-use crate::walk::Walk;
 use bo_table::Bo;
-use room_state::room_turns::Rooms;
+use room_state::room_turns::{Rooms, Walk};
+use state_words::is_loose;
 use ttm_base::{BufId, Mem};
 
 /// Returns buffer `b`, or None where it isn't live.
@@ -22,13 +21,6 @@ pub(crate) fn live(rooms: &Rooms, b: BufId) -> Option<&Bo>
     }
     let bo = bos.get(b);
     if bo.alive { Some(bo) } else { None }
-}
-
-/// Returns whether the buffer `bo` is neither pinned nor reserved.
-fn is_loose(bo: &Bo) -> bool
-    ensures { result ≡ words.is_loose (reservation_of bo.now) }
-{
-    bo.pins == 0 && bo.resv.holder().is_none()
 }
 
 /// Returns whether buffer `b` has a frame.
@@ -56,7 +48,7 @@ fn is_swappable(rooms: &Rooms, b: BufId) -> bool
     ensures { result ≡ (words.is_loose (reservation (state_behind rooms.now) b) && words.has_frame (buffer (state_behind rooms.now) b)) }
 {
     match live(rooms, b) {
-        Some(bo) => is_loose(bo) && bo.table.has_frame(),
+        Some(bo) => is_loose(bo.reservation()) && bo.table.has_frame(),
         None => false,
     }
 }

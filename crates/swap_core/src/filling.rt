@@ -16,6 +16,7 @@ use crate::buffers::{live, swap_victim};
 use journal_model::{Kind, Task, Why};
 use room_representation::Ghost;
 use room_state::room_turns::{Rooms, Step, turn};
+use state_words::filled_by;
 use ttm_base::{Actor, BufId, Loc, Need, NoMemory};
 
 /// Returns where page `page` stands.
@@ -25,21 +26,6 @@ fn loc_at(places: &[Loc], page: u32) -> Loc
     match places.get(page as usize) {
         Some(loc) => *loc,
         None => Loc::Zero,
-    }
-}
-
-/// Returns the entry that gives page `page` the frame `frame`: as a fresh page, or as one that comes back from swap.
-fn filled_by(b: BufId, page: u32, frame: u32, loc: Loc) -> Kind
-    ensures { result ≡ words.filled_by b page frame loc }
-{
-    match loc {
-        Loc::Slot(slot) => Kind::SwapIn {
-            b,
-            page,
-            slot,
-            frame,
-        },
-        Loc::Zero | Loc::Frame(_) => Kind::Populate { b, page, frame },
     }
 }
 

@@ -6,7 +6,6 @@ mod buffers;
 mod filling;
 mod giving;
 mod swapping;
-mod walk;
 
 pub use filling::fill;
 pub use giving::{depopulate, is_depopulate_due};

@@ -2,7 +2,6 @@ ghost use Rattle.std.specs.Prelude.{◌≡◌, ◌<◌, Some, true, find, length
 ghost use Rattle.ttm_base.specs.declared.Actor.TheVariants as actor;
 ghost use Rattle.ttm_base.specs.declared.Need.TheVariants as need;
 ghost use Rattle.journal_model.specs.declared.entry.Kind.TheVariants as kind;
-ghost use Rattle.journal_model.specs.rules.State as states;
 ghost use Rattle.journal_model.specs.rules.State.{buffer};
 ghost use Rattle.journal_model.specs.rules.PageSteps as words;
 ghost use Rattle.room_state.specs.room_turns.Turns.{state_behind};
@@ -12,9 +11,9 @@ ghost use Rattle.swap_core.specs.Due as due;
 ghost use Rattle.swap_core.specs.Due.{job_before_swap, swapped, swap_out_due};
 
 use crate::buffers::{has_frame, live};
-use journal_model::{Command, Course, Kind, Task, Victim, Why};
+use journal_model::{Command, Course, Kind, Task, Why};
 use room_state::room_turns::{Rooms, Step, turn};
-use state_words::same_buffer;
+use state_words::courses::why_caught;
 use ttm_base::{Actor, BufId, Need, NoMemory, Usage};
 
 /// Returns the first page of buffer `b` with a frame, or page 0. Takes constant time.
@@ -42,19 +41,12 @@ fn next_of_swap(rooms: &Rooms, b: BufId, slot: u32) -> Result<Kind, Need>
     }
 }
 
-/// Returns the victim of `caught` that is buffer `b`, if it is caught.
-fn victim_of(caught: &[Victim], b: BufId) -> Option<Victim>
-    ensures { result ≡ find (λ v. states.same_buffer b v.b) caught.now }
-{
-    caught.iter().copied().find(|v| same_buffer(b, v.b))
-}
-
 /// Returns buffer `b` where it was caught for swap.
 fn if_for_swap(course: &Course, b: BufId) -> Option<BufId>
     ensures { result ≡ due.if_for_swap b (words.why_caught course.now b) }
 {
-    match victim_of(course.caught.items(), b) {
-        Some(victim) if matches!(victim.why, Why::Swap) => Some(b),
+    match why_caught(course, b) {
+        Some(Why::Swap) => Some(b),
         _ => None,
     }
 }
