@@ -145,7 +145,6 @@ fn vsubmit_with(engine: EngineWord, ops: VOpWords) -> Option<Line>
     }
 }
 
-#[inline(never)]
 pub fn vsubmit(alloc: Global, engines: u32, words: &[Word]) -> Result<Option<Line>, NoMemory>
     ensures { IfOk result (λ line. line ≡ vsubmit_line engines words.now) }
 {

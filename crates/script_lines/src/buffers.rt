@@ -107,7 +107,6 @@ fn with_lists(
     }
 }
 
-#[inline(never)]
 pub fn buffer(alloc: Global, two: bool, words: &[Word]) -> Result<Option<Line>, NoMemory>
     ensures { IfOk result (λ line. line ≡ buffer_line_of two words.now) }
 {

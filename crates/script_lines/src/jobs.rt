@@ -132,7 +132,6 @@ fn submit_with(engine: EngineWord, ops: OpWords) -> Option<Line>
     }
 }
 
-#[inline(never)]
 pub fn submit(
     alloc: Global,
     names: &Names,

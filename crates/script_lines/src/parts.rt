@@ -148,7 +148,6 @@ fn turn_of(actors: ActorWords) -> Option<Line>
     }
 }
 
-#[inline(never)]
 fn turn(alloc: Global, threads: u32, engines: u32, words: &[Word]) -> Result<Option<Line>, NoMemory>
     ensures { IfOk result (λ line. line ≡ turn_line_of threads engines words.now) }
 {
@@ -171,7 +170,6 @@ fn plain(names: &Names, verb: Verb, words: &[Word]) -> Option<Line>
     }
 }
 
-#[inline(never)]
 fn write(
     alloc: Global,
     access: Access,

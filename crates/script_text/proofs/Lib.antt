@@ -1,5 +1,6 @@
 pub mod Answered
 pub mod Clean
+pub mod Fronts
 pub mod Known
 pub mod Lines
 pub mod Mapped

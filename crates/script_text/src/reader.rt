@@ -3,11 +3,13 @@
 ghost use Rattle.std.specs.Prelude.{◌≡◌, ◌≤◌, ◌<◌, ◌+◌, ◌-◌, bytes_eq, false, not, nat_lt, sum_by, ◌==◌, ◌++◌, ◌∷◌, [], IfOk, OnOk, length, take};
 ghost use Rattle.std.specs.List.{list_any};
 ghost use Rattle.journal_model.specs.scripts.LineWords.{keyword_of};
-ghost use Rattle.journal_model.specs.scripts.FirstFault.{with_sizes, with_buffer, with_command, with_submit, with_line, is_shown, without_end, ends_line, breaks_text, first_word, after_words, after_line, nothing_read, is_behind_end};
+ghost use Rattle.journal_model.specs.scripts.FirstFault.{with_sizes, with_buffer, with_command, with_submit, with_line, first_word, after_words, nothing_read, is_behind_end};
 ghost use Rattle.journal_model.specs.scripts.LineRules.{len_of_word, is_too_long};
 ghost use Rattle.journal_model.specs.rules.Commands.{commands_of};
 ghost use Rattle.journal_model.specs.scripts.MarkRules.{thread_mappings_at_end};
 ghost use Rattle.script_rules.specs.script_mappings.ThreadMappingLists.{IsThreadMappings};
+ghost use Rattle.journal_model.specs.scripts.Cut.{cut_at};
+ghost use Rattle.script_text.specs.Fronts.{ends_at, shown_len};
 ghost use Rattle.script_text.specs.Steps.{IsSteady, IsKnown, IsClean, Leads, thread_mappings_next};
 
 use crate::marks::{follow, put_access, put_mark_line, put_vsubmit};
@@ -370,32 +372,28 @@ fn accept(
     Ok(())
 }
 
-fn has_hidden(text: &[u8]) -> bool
-    ensures { result ≡ list_any (λ b. not (is_shown b)) text.now }
+/// Returns the number of bytes that show before the first that doesn't.
+pub fn shown_len(text: &[u8]) -> usize
+    ensures { result ≡ shown_len text.now }
 {
-    text.iter().any(|b| !(32 <= *b && *b <= 126))
+    let mut len = 0;
+    for &b in text {
+        if !(32 <= b && b <= 126) {
+            return len;
+        }
+        len += 1;
+    }
+    len
 }
 
-fn does_end(text: &[u8]) -> bool
-    ensures { result ≡ ends_line text.now }
+/// Returns whether some bytes, of which there are `len`, are all of a line but its line feed.
+pub fn does_end_at(text: &[u8], len: usize) -> bool
+    ensures { result ≡ ends_at text.now len }
 {
-    match text.last() {
-        Some(b) => *b == b'\n',
+    match text.get(len) {
+        Some(b) => 0 < len && *b == b'\n',
         None => false,
     }
-}
-
-fn front_of(text: &[u8]) -> &[u8]
-    ensures { result.now ≡ without_end text.now }
-{
-    &text[..text.len().saturating_sub(1)]
-}
-
-/// Returns whether a line is empty, has other bytes than those that show, or lacks its line feed.
-fn breaks_line(text: &[u8]) -> bool
-    ensures { result ≡ breaks_text text.now }
-{
-    !does_end(text) || text.len() < 2 || has_hidden(front_of(text))
 }
 
 fn keyword_of_line(words: &[Word]) -> Keyword
@@ -441,24 +439,22 @@ fn take_words(
     Ok(None)
 }
 
-/// Takes a line, or returns the least rule that it breaks. The list `words` is left with what the line has.
-pub fn take_line<'a>(
+/// Takes a line by its front, all but its line feed, or returns the least rule from 3 on that it breaks. The list `words` is left with what
+/// the line has.
+pub fn take_front<'a>(
     alloc: Global,
     words: &mut Words<'a>,
     known: &mut Known,
     progress: &mut Progress,
-    text: &'a [u8],
+    front: &'a [u8],
 ) -> Result<Option<u32>, NoMemory>
     requires steady { IsSteady known.old.names progress.old }
     requires known { IsKnown known.old.thread_mappings progress.old }
-    ensures leads { IfOk result (λ rule. Leads rule progress.new (after_line progress.old text.now)) }
+    ensures leads { IfOk result (λ rule. Leads rule progress.new (after_words progress.old (cut_at 32 front.now))) }
     ensures steady { OnOk result (IsSteady known.new.names progress.new) }
     ensures known { OnOk result (IsKnown known.new.thread_mappings progress.new) }
 {
-    if breaks_line(text) {
-        return Ok(Some(2));
-    }
-    cut_into(words, b' ', front_of(text))?;
+    cut_into(words, b' ', front)?;
     take_words(alloc, known, progress, words.items())
 }
 
