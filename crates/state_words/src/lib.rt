@@ -1,6 +1,6 @@
-//! What a script says of buffers, commands and places, and how the state of a thread changes, as code: the functions that
-//! the plain rules and the rooms have in common. Each function is named after its definition and returns what the definition
-//! says.
+//! What a script says of buffers, commands and places, what a thread has to do next for one buffer, and how the state of a thread
+//! changes, as code: the functions that the plain rules and the rooms have in common. Each function is named after its definition and
+//! returns what the definition says.
 #![tactic(auto)]
 
 mod buffers;
