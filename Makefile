@@ -27,7 +27,7 @@ install:
 	tools/build/install.sh "$(DESTDIR)$(PREFIX)"
 	[ ! -e libpearoar_mm.a ] || tools/build/install_c_library.sh "$(PREFIX)" "$(DESTDIR)"
 
-C_CRATES = ttm_base step_count bit_set sparse_table hole_tree range_manager block_tree buddy_manager manager_walk mm_c
+C_CRATES = ttm_base place_list step_count bit_set sparse_table hole_tree range_manager block_tree buddy_manager manager_walk mm_c
 C_SOURCES = $(wildcard $(C_CRATES:%=crates/%/src/*.rt))
 
 libpearoar_mm.a: $(C_SOURCES)
