@@ -6,6 +6,7 @@ ghost use Rattle.journal_model.specs.scripts.Cut.{is_semicolon};
 ghost use Rattle.journal_model.specs.scripts.Reading.{is_digit, has_no_leading_zero, is_plain, read_on, number_in, group_of, offset_of, address_of, is_hex, hex_value, bytes_in_hex, byte_in_hex, mem_of, engine_word_of, actor_of, thread_actor, engine_actor};
 
 use crate::cut::Word;
+use hex::FromHexError;
 use journal_model::Bytes;
 use journal_model::line::{ActorWord, EngineWord};
 use std::alloc::Global;
@@ -213,19 +214,25 @@ pub fn actor(threads: u32, engines: u32, word: &[u8]) -> ActorWord
     }
 }
 
+/// Returns whether each byte of `word` is a lower-case hexadecimal digit.
+fn are_hex_digits(word: &[u8]) -> bool
+    ensures { result ≡ list_all is_hex word.now }
+{
+    word.iter().all(|c| is_hex_digit(*c))
+}
+
 /// Returns the bytes that `word` tells in pairs of lower-case hexadecimal digits, or `None` if it tells none.
 pub fn bytes(alloc: Global, word: &[u8]) -> Result<Option<Bytes>, NoMemory>
     ensures { IfOk result (λ bytes. bytes ≡ bytes_in_hex word.now) }
 {
-    if word.len() % 2 != 0 {
+    if !are_hex_digits(word) {
         return Ok(None);
     }
-    let mut bytes = Bytes::new(alloc);
-    for i in 0..word.len() / 2 {
-        match byte(&word[2 * i..2 * i + 2]) {
-            Some(b) => bytes.push(b)?,
-            None => return Ok(None),
-        }
+    match hex::decode(alloc, word) {
+        Ok(bytes) => Ok(Some(owned(alloc, bytes.as_slice())?)),
+        Err(error) => match error {
+            FromHexError::OutOfMemory => Err(NoMemory),
+            _ => Ok(None),
+        },
     }
-    Ok(Some(bytes))
 }
