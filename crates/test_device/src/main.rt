@@ -12,14 +12,23 @@ use std::io;
 use std::io::{BufRead, BufReader};
 use std::sync::Wait;
 use std::thread::Threads;
-use test_cases::{Case, Form, Table};
+use test_cases::{Form, Table};
 use threaded::{drawn, workers};
 
-fn run(rt: &(impl Threads + Wait + Sync + Print), alloc: Global, case: Case) -> io::Result<()> {
+/// Takes the next `line` of the table, and runs the case that it ends, if it ends one.
+fn take_line(
+    rt: &(impl Threads + Wait + Sync + Print),
+    alloc: Global,
+    table: &mut Table,
+    line: &str,
+) -> io::Result<()> {
+    let Some(mut case) = table.take(line)? else {
+        return Ok(());
+    };
     match case.form {
         Form::Program => program::run(rt, alloc, &case),
         Form::Devices(when) => compared::run(rt, alloc, &case, when),
-        Form::Drawn(number) => drawn::run(rt, alloc, case, number),
+        Form::Drawn(number) => drawn::run(rt, alloc, &mut case, number),
         Form::Workers(pace) => workers::run(rt, alloc, &case, pace),
         Form::OneWorker => workers::run_alone(rt, alloc, &case),
     }
@@ -29,9 +38,11 @@ fn main(rt: HostRuntime) -> io::Result<()> {
     let alloc = rt.alloc();
     let mut table = Table::new(alloc);
     for line in BufReader::new(alloc, rt.reader())?.lines(alloc) {
-        if let Some(case) = table.take(line?.as_str())? {
-            run(&rt, alloc, case)?;
-        }
+        let taken = match line {
+            Ok(line) => take_line(&rt, alloc, &mut table, line.as_str()),
+            Err(fault) => Err(fault),
+        };
+        taken?;
     }
     Ok(())
 }

@@ -1,3 +1,5 @@
+use script_text::ScriptFault;
+use std::io::Error;
 use ttm_base::NoMemory;
 
 /// What the device on its parts, or the parts that are given the entries, do or have otherwise than the plain device.
@@ -13,9 +15,26 @@ pub struct Difference {
 #[derive(Clone, Copy)]
 pub enum Stop {
     Differs(Difference),
+    /// The text is no script.
+    NoScript,
     NoMemory,
     /// A line can't be printed.
     NoOutput,
+}
+
+impl From<ScriptFault> for Stop {
+    fn from(fault: ScriptFault) -> Stop {
+        match fault {
+            ScriptFault::Bad { .. } => Stop::NoScript,
+            ScriptFault::NoMemory => Stop::NoMemory,
+        }
+    }
+}
+
+impl From<Error> for Stop {
+    fn from(_: Error) -> Stop {
+        Stop::NoOutput
+    }
 }
 
 impl From<NoMemory> for Stop {
@@ -24,7 +43,7 @@ impl From<NoMemory> for Stop {
     }
 }
 
-/// Goes on only if what both tell is the same, else names `what` differs.
+/// Is `Ok` only if what both tell is the same, else names `what` differs.
 pub fn agree(is_same: bool, what: &'static str) -> Result<(), Stop> {
     if is_same {
         Ok(())
@@ -33,7 +52,17 @@ pub fn agree(is_same: bool, what: &'static str) -> Result<(), Stop> {
     }
 }
 
-/// Goes on only if what both tell of the part numbered `number` is the same, else names `what` differs.
+/// Is `Ok` only if all `facts` are true. Of each, the words tell what differs if it isn't: the first such is named.
+pub fn agree_all(facts: &[(bool, &'static str)]) -> Result<(), Stop> {
+    for (is_same, what) in facts {
+        if !*is_same {
+            return agree(false, *what);
+        }
+    }
+    Ok(())
+}
+
+/// Is `Ok` only if what both tell of the part numbered `number` is the same, else names `what` differs.
 pub fn agree_on(is_same: bool, what: &'static str, number: u64) -> Result<(), Stop> {
     if is_same {
         Ok(())

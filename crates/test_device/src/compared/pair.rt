@@ -1,8 +1,8 @@
-ghost use Rattle.std.specs.Prelude.{OnOk, IfOk, IfSome};
+ghost use Rattle.std.specs.Prelude.{OnOk, IfOk};
 ghost use Rattle.test_device.specs.Steps.{AreInStep};
 
 use super::bytes::compare_bytes;
-use super::difference::{Difference, Stop, agree, agree_on};
+use super::difference::{Stop, agree, agree_all, agree_on};
 use super::parts::compare_parts;
 use super::replay::Replay;
 use super::report::{line_that_differs, report_of};
@@ -10,7 +10,7 @@ use device_core::Device;
 use io_edge::MemSink;
 use journal_model::{Entry, Kind};
 use plain_accounts::accounts_of;
-use script_text::{ScriptFault, read_script};
+use script_text::read_script;
 use std::alloc::Global;
 use test_cases::When;
 use ttm_base::{Actor, Logged, NoMemory, Turn};
@@ -71,77 +71,58 @@ impl Asked {
     }
 }
 
-/// Makes the device on its parts for a text, or returns `None` where that is no script.
-///
-/// # Errors
-///
-/// `NoMemory` if memory runs out.
-fn device_for(alloc: Global, text: &[u8]) -> Result<Option<Device>, NoMemory> {
-    match read_script(alloc, text) {
-        Ok(script) => Ok(Some(Device::new(alloc, script)?)),
-        Err(ScriptFault::NoMemory) => Err(NoMemory),
-        Err(ScriptFault::Bad { .. }) => Ok(None),
-    }
-}
-
 impl Pair {
-    /// Makes all devices and parts of a text, or returns `None` where that is no script.
+    /// Makes all devices and parts of a text.
     ///
     /// # Errors
     ///
-    /// Lack of memory.
-    pub fn of(alloc: Global, text: &[u8], when: When) -> Result<Option<Pair>, NoMemory>
-        ensures { IfOk result (λ found. IfSome found (λ pair. AreInStep pair.replay.plain pair.replay.rooms)) }
+    /// A text that is no script, and lack of memory.
+    pub fn of(alloc: Global, text: &[u8], when: When) -> Result<Pair, Stop>
+        ensures { IfOk result (λ pair. AreInStep pair.replay.plain pair.replay.rooms) }
     {
-        let Some(device) = device_for(alloc, text)? else {
-            return Ok(None);
-        };
-        match Replay::of(alloc, text)? {
-            Some(replay) => Ok(Some(Pair {
-                alloc,
-                when,
-                asked: Asked { device, refused: 0 },
-                replay,
-                turns: 0,
-            })),
-            None => Ok(None),
-        }
+        let device = Device::new(alloc, read_script(alloc, text)?)?;
+        let replay = Replay::of(alloc, text)?;
+        Ok(Pair {
+            alloc,
+            when,
+            asked: Asked { device, refused: 0 },
+            replay,
+            turns: 0,
+        })
     }
 
     /// Compares the last job of each context that is done.
     fn compare_done(&self) -> Result<(), Stop> {
         let device = &self.asked.device;
         let journal = self.replay.plain.journal();
+        let mut found = Ok(());
         for ctx in 0..=device.script().sizes.engines {
             let same = device.done(ctx) == last_done(journal, ctx);
-            agree_on(same, "another last job of context", u64::from(ctx))?;
+            found = found.and(agree_on(same, "another last job of context", u64::from(ctx)));
         }
-        Ok(())
+        found
     }
 
-    /// Compares what is to be the same after a turn: the number of entries, whether all is over, how far the contexts are.
-    fn compare_turn(&self) -> Result<(), Stop> {
-        let device = &self.asked.device;
-        let plain = &self.replay.plain;
-        let same = device.journal().len() == plain.journal().len();
-        agree(same, "another number of entries")?;
-        agree(device.over() == plain.over(), "another end")?;
-        self.compare_done()
-    }
-
-    /// Compares what is to be the same at the start and after an entry: what is the same after a turn, and what the parts tell, if they are
-    /// compared then.
+    /// Compares what is to be the same after a turn: the number of entries, whether all is over, how far the contexts are; and at the start
+    /// and where an entry may have been made (`is_entry`) what the parts tell, if they are compared then.
     ///
     /// # Errors
     ///
     /// A difference, or lack of memory.
-    pub fn compare_entry(&self) -> Result<(), Stop>
+    pub fn compare_turn(&self, is_entry: bool) -> Result<(), Stop>
         requires { AreInStep self.now.replay.plain self.now.replay.rooms }
     {
-        self.compare_turn()?;
+        let device = &self.asked.device;
+        let plain = &self.replay.plain;
+        let same_count = device.journal().len() == plain.journal().len();
+        let found = agree_all(&[
+            (same_count, "another number of entries"),
+            (device.over() == plain.over(), "another end"),
+        ])
+        .and(self.compare_done());
         match self.when {
-            When::EachEntry => compare_parts(&self.replay, self.alloc),
-            When::AtTheEnd => Ok(()),
+            When::EachEntry if is_entry => found.and(compare_parts(&self.replay, self.alloc)),
+            _ => found,
         }
     }
 
@@ -157,38 +138,27 @@ impl Pair {
         self.turns = self.turns.saturating_add(1);
         let turn = self.replay.step(who)?;
         let here = self.asked.step(who)?;
-        agree(here == turn, "another answer")?;
-        match turn {
-            Turn::Made(_) => self.compare_entry()?,
-            Turn::Blocked(_) | Turn::Over => self.compare_turn()?,
-        }
+        let is_made = matches!(&turn, Turn::Made(_));
+        agree(here == turn, "another answer").and(self.compare_turn(is_made))?;
         Ok(turn)
     }
 
-    /// Takes a turn in the simulator's order on both devices, and returns whose it was, if some actor has an entry.
+    /// Takes a turn in the simulator's order on both devices, if some actor has an entry. Returns whether one has.
     ///
     /// # Errors
     ///
     /// A difference, or lack of memory.
-    pub fn step_next(&mut self) -> Result<Option<Actor>, Stop>
+    pub fn step_next(&mut self) -> Result<bool, Stop>
         requires { AreInStep self.old.replay.plain self.old.replay.rooms }
         ensures { OnOk result (AreInStep self.new.replay.plain self.new.replay.rooms) }
     {
         let who = self.replay.step_next()?;
         let here = self.asked.step_next()?;
         agree(here == who, "another actor")?;
-        if who.is_some() {
-            self.turns = self.turns.saturating_add(1);
-        }
-        self.compare_entry()?;
-        Ok(who)
-    }
-
-    /// Writes the report of the plain device.
-    fn report_by_definitions(&self) -> Result<MemSink, NoMemory> {
-        let plain = &self.replay.plain;
-        let accounts = accounts_of(self.alloc, plain.script(), plain.state())?;
-        report_of(self.alloc, plain.script(), plain.journal(), &accounts)
+        let is_taken = who.is_some();
+        self.turns = self.turns.saturating_add(u64::from(is_taken));
+        self.compare_turn(true)?;
+        Ok(is_taken)
     }
 
     /// Writes the report of the device on its parts.
@@ -198,17 +168,18 @@ impl Pair {
         report_of(self.alloc, device.script(), device.journal(), &accounts)
     }
 
-    /// Compares all entries, results and accounts.
+    /// Compares all entries, results and accounts, by the reports of both.
     fn compare_told(&self) -> Result<(), Stop> {
-        let wanted = self.report_by_definitions()?;
+        let plain = &self.replay.plain;
+        let accounts = accounts_of(self.alloc, plain.script(), plain.state())?;
+        let wanted = report_of(self.alloc, plain.script(), plain.journal(), &accounts)?;
         let here = self.report_on_parts()?;
-        match line_that_differs(here.bytes(), wanted.bytes()) {
-            Some(line) => Err(Stop::Differs(Difference {
-                what: "another report from line",
-                number: Some(line),
-            })),
-            None => Ok(()),
-        }
+        let line = line_that_differs(here.bytes(), wanted.bytes());
+        agree_on(
+            line.is_none(),
+            "another report from line",
+            line.unwrap_or(0),
+        )
     }
 
     /// Compares what is to be the same after all turns: all entries, results, accounts and bytes, and what the parts tell.
@@ -219,8 +190,8 @@ impl Pair {
     pub fn compare_end(&self) -> Result<(), Stop>
         requires { AreInStep self.now.replay.plain self.now.replay.rooms }
     {
-        self.compare_told()?;
-        compare_bytes(&self.asked.device, self.replay.plain.stores())?;
-        compare_parts(&self.replay, self.alloc)
+        self.compare_told()
+            .and(compare_bytes(&self.asked.device, self.replay.plain.stores()))
+            .and(compare_parts(&self.replay, self.alloc))
     }
 }

@@ -3,12 +3,12 @@ ghost use Rattle.laws.specs.lemma_bytes_told.Told.{IsThere};
 ghost use Rattle.room_state.specs.Kept.{state_behind};
 ghost use Rattle.test_device.specs.Steps.{AreInStep};
 
-use super::accounts::{accounts_in, are_kept, are_same_accounts};
-use super::difference::{Stop, agree, agree_on};
+use super::accounts::{are_kept, are_same_accounts};
+use super::difference::{Stop, agree_all, agree_on};
 use super::replay::Replay;
 use bo_table::BoTable;
 use copy_packet::ProbeBytes;
-use journal_model::{Buffer, Script, State};
+use journal_model::{Buffer, Course, Script, State};
 use plain_accounts::accounts_of;
 use room_state::Rooms;
 use rules_holds::{free_frame, free_slot, waited_before_read, waited_before_write};
@@ -23,21 +23,15 @@ const PAGE: u32 = 4096;
 /// The number of bytes that are shown at once.
 const PIECE: u32 = 256;
 
-/// Compares `PIECE` bytes of a page of a live buffer, from `off` on.
-fn compare_piece(
-    replay: &Replay,
-    b: BufId,
-    page: u32,
-    off: u32,
-    seen: &mut ProbeBytes,
-) -> Result<(), Stop>
+/// Compares `PIECE` bytes of a live buffer, of which there are `piece` times as many before.
+fn compare_piece(replay: &Replay, b: BufId, piece: u32, seen: &mut ProbeBytes) -> Result<(), Stop>
     requires { IsThere (state_behind replay.now.rooms) b }
 {
-    let at = page.saturating_mul(PAGE).saturating_add(off);
+    let at = piece.saturating_mul(PIECE);
     replay.rooms.shown(b, at, PIECE, seen);
-    let place = StorePage::of(&replay.plain.state().core, b, page);
+    let place = StorePage::of(&replay.plain.state().core, b, at / PAGE);
     let mut wanted = [0; PIECE as usize];
-    replay.plain.stores().read(place, off, &mut wanted);
+    replay.plain.stores().read(place, at % PAGE, &mut wanted);
     agree_on(
         seen.bytes() == wanted.as_slice(),
         "other bytes on a page of buffer",
@@ -49,12 +43,11 @@ fn compare_piece(
 fn compare_pages(replay: &Replay, b: BufId, seen: &mut ProbeBytes) -> Result<(), Stop>
     requires { IsThere (state_behind replay.now.rooms) b }
 {
-    for page in 0..declared_pages(replay.plain.script(), b) {
-        for piece in 0..PAGE / PIECE {
-            compare_piece(replay, b, page, piece * PIECE, seen)?;
-        }
+    let mut found = Ok(());
+    for piece in 0..declared_pages(replay.plain.script(), b).saturating_mul(PAGE / PIECE) {
+        found = found.and(compare_piece(replay, b, piece, seen));
     }
-    Ok(())
+    found
 }
 
 /// Compares the jobs to wait for before a live buffer is used.
@@ -63,9 +56,13 @@ fn compare_needs(replay: &Replay, b: BufId, buffer: &Buffer) -> Result<(), Stop>
 {
     let core = &replay.plain.state().core;
     let rooms = &replay.rooms;
-    let same = rooms.need(b, Usage::Write) == waited_before_write(core, buffer)
-        && rooms.need(b, Usage::Read) == waited_before_read(core, buffer);
-    agree_on(same, "other jobs before buffer", u64::from(b.0))
+    let before_write = rooms.need(b, Usage::Write) == waited_before_write(core, buffer);
+    let before_read = rooms.need(b, Usage::Read) == waited_before_read(core, buffer);
+    agree_on(
+        before_write & before_read,
+        "other jobs before buffer",
+        u64::from(b.0),
+    )
 }
 
 /// Returns whether the table has a live buffer of that number.
@@ -78,14 +75,13 @@ fn compare_buffer(replay: &Replay, b: BufId, seen: &mut ProbeBytes) -> Result<()
     requires step { AreInStep replay.now.plain replay.now.rooms }
     requires declared { b.0 < length replay.now.rooms.script.buffers }
 {
-    let live = live_in(replay.plain.state().core.buffers.items(), b);
-    let same = is_alive(replay.rooms.bos(), b) == live.is_some();
-    agree_on(same, "another life of buffer", u64::from(b.0))?;
-    if let Some(buffer) = live {
-        compare_needs(replay, b, buffer)?;
-        compare_pages(replay, b, seen)?;
+    let alive = is_alive(replay.rooms.bos(), b);
+    match live_in(replay.plain.state().core.buffers.items(), b) {
+        Some(buffer) => agree_on(alive, "another life of buffer", u64::from(b.0))
+            .and(compare_needs(replay, b, buffer))
+            .and(compare_pages(replay, b, seen)),
+        None => agree_on(!alive, "another life of buffer", u64::from(b.0)),
     }
-    Ok(())
 }
 
 /// Counts the declared buffers. No script that has a spelling declares more than 32 bits hold.
@@ -102,10 +98,11 @@ fn compare_buffers(replay: &Replay, alloc: Global) -> Result<(), Stop>
     requires { AreInStep replay.now.plain replay.now.rooms }
 {
     let mut seen = ProbeBytes::new(alloc)?;
+    let mut found = Ok(());
     for i in 0..declared(replay.rooms.script()) {
-        compare_buffer(replay, BufId(i), &mut seen)?;
+        found = found.and(compare_buffer(replay, BufId(i), &mut seen));
     }
-    Ok(())
+    found
 }
 
 /// Returns the frame that the plain device has at page `page` of TT.
@@ -118,60 +115,61 @@ fn frame_at(state: &State, page: u32) -> Option<u32> {
 
 /// Compares the frame that each page of TT stands for.
 fn compare_aperture(replay: &Replay) -> Result<(), Stop> {
+    let state = replay.plain.state();
     let aperture = replay.rooms.aperture();
+    let mut found = Ok(());
     for page in 0..replay.rooms.script().sizes.tt {
-        let wanted = frame_at(replay.plain.state(), page);
-        agree_on(
-            aperture.get(page) == wanted,
-            "another frame at page of TT",
-            u64::from(page),
-        )?;
+        let same = aperture.get(page) == frame_at(state, page);
+        found = found.and(agree_on(same, "another frame at page of TT", u64::from(page)));
     }
-    Ok(())
-}
-
-/// Returns the buffer after `b` in its list, if it is on one.
-fn listed_behind(rooms: &Rooms, b: BufId) -> Option<BufId> {
-    if rooms.lru().is_listed(b) {
-        rooms.lru().next(b)
-    } else {
-        None
-    }
+    found
 }
 
 /// Returns whether a list of the parts has these buffers in this order.
 fn is_same_list(rooms: &Rooms, first: Option<BufId>, wanted: &[BufId]) -> bool {
+    let lru = rooms.lru();
     let mut listed = first;
+    let mut same = true;
     for b in wanted {
-        if listed != Some(*b) {
-            return false;
-        }
-        listed = listed_behind(rooms, *b);
+        same &= listed == Some(*b);
+        listed = if lru.is_listed(*b) {
+            lru.next(*b)
+        } else {
+            None
+        };
     }
-    listed.is_none()
+    same & listed.is_none()
 }
 
-/// Compares the list of the memory type `mem` and the priority `prio`.
-fn compare_list(replay: &Replay, mem: Mem, prio: u32) -> Result<(), Stop>
-    requires { prio < 4 }
-{
-    let number = list_number(mem, prio);
+/// Compares the list of the number `number`: those of each memory type are four, by their priorities.
+fn compare_list(replay: &Replay, number: u32) -> Result<(), Stop> {
+    let mem = match number / 4 {
+        0 => Mem::System,
+        1 => Mem::Tt,
+        _ => Mem::Vram,
+    };
+    let prio = number % 4;
     let first = replay.rooms.lru().first(mem, prio);
-    let same = match replay.plain.state().lists.items().get(number) {
+    let same = match replay
+        .plain
+        .state()
+        .lists
+        .items()
+        .get(list_number(mem, prio))
+    {
         Some(list) => is_same_list(&replay.rooms, first, list.items()),
         None => first.is_none(),
     };
-    agree_on(same, "another order of list", number as u64)
+    agree_on(same, "another order of list", u64::from(number))
 }
 
 /// Compares the twelve lists.
 fn compare_lists(replay: &Replay) -> Result<(), Stop> {
-    for mem in [Mem::System, Mem::Tt, Mem::Vram] {
-        for prio in 0..4 {
-            compare_list(replay, mem, prio)?;
-        }
+    let mut found = Ok(());
+    for number in 0..12 {
+        found = found.and(compare_list(replay, number));
     }
-    Ok(())
+    found
 }
 
 /// Returns the first job of the context `ctx` that isn't finished.
@@ -194,91 +192,94 @@ fn compare_jobs_of(replay: &Replay, ctx: u32) -> Result<(), Stop>
         Some(last) => *last,
         None => 0,
     };
-    let same = last.checked_add(1) == Some(rooms.next_job(ctx))
-        && head_of(state, ctx) == rooms.head(ctx);
-    agree_on(same, "other jobs of context", u64::from(ctx))
+    let same_next = last.checked_add(1) == Some(rooms.next_job(ctx));
+    let same_head = head_of(state, ctx) == rooms.head(ctx);
+    agree_on(
+        same_next & same_head,
+        "other jobs of context",
+        u64::from(ctx),
+    )
 }
 
 fn compare_jobs(replay: &Replay) -> Result<(), Stop> {
+    let mut found = Ok(());
     for ctx in 0..=replay.rooms.script().sizes.engines {
-        compare_jobs_of(replay, ctx)?;
+        found = found.and(compare_jobs_of(replay, ctx));
     }
-    Ok(())
+    found
 }
 
-/// Compares the last ticket and ghost, and the first ghost.
+/// Compares the last ticket and ghost, the first ghost, how many entries there are, and whether all is over.
 fn compare_numbers(replay: &Replay) -> Result<(), Stop> {
-    let state = replay.plain.state();
+    let plain = &replay.plain;
+    let state = plain.state();
     let rooms = &replay.rooms;
-    let same = state.last_stamp.checked_add(1) == Some(rooms.next_stamp().0);
-    agree(same, "another stamp")?;
+    let same_stamp = state.last_stamp.checked_add(1) == Some(rooms.next_stamp().0);
     let first = match state.core.ghosts.items().first() {
         Some(left) => Some(left.num),
         None => None,
     };
-    let same = state.last_ghost.checked_add(1) == Some(rooms.next_ghost())
-        && first == rooms.first_ghost();
-    agree(same, "other ghosts")
+    let same_next = state.last_ghost.checked_add(1) == Some(rooms.next_ghost());
+    let same_first = first == rooms.first_ghost();
+    let same_count = plain.journal().len() == rooms.journal().len();
+    agree_all(&[
+        (same_stamp, "another stamp"),
+        (same_next & same_first, "other ghosts"),
+        (plain.over() == rooms.over(), "another end on the parts"),
+        (same_count, "another number of entries on the parts"),
+    ])
 }
 
-/// Compares how many entries there are, and whether all is over.
-fn compare_entries(replay: &Replay) -> Result<(), Stop> {
-    let plain = &replay.plain;
-    let rooms = &replay.rooms;
-    agree(plain.over() == rooms.over(), "another end on the parts")?;
-    let same = plain.journal().len() == rooms.journal().len();
-    agree(same, "another number of entries on the parts")
+/// Returns how many commands the thread has answered whose course is at `at`, if there is one.
+fn answered_at(courses: &[Course], at: usize) -> Option<u32> {
+    match courses.get(at) {
+        Some(course) => Some(course.answered),
+        None => None,
+    }
 }
 
 /// Compares how many commands each thread has answered.
 fn compare_answered(replay: &Replay) -> Result<(), Stop> {
     let kept = replay.rooms.parts().courses.items();
-    for (i, course) in replay.plain.state().courses.items().iter().enumerate() {
-        let same = match kept.get(i) {
-            Some(found) => found.answered == course.answered,
-            None => false,
-        };
-        agree_on(same, "another place of thread from 0", i as u64)?;
+    let wanted = replay.plain.state().courses.items();
+    let mut found = Ok(());
+    for i in 0..wanted.len() {
+        let same = answered_at(kept, i) == answered_at(wanted, i);
+        found = found.and(agree_on(same, "another place of thread from 0", i as u64));
     }
-    Ok(())
+    found
 }
 
-/// Compares the lowest free frame and slot.
+/// Compares the lowest free frame and slot, and the counts of pages, frames and slots that are held or free.
 fn compare_free(replay: &Replay, alloc: Global) -> Result<(), Stop> {
     let script = replay.plain.script();
-    let core = &replay.plain.state().core;
-    let frame = free_frame(alloc, script, core)?;
-    agree(
-        replay.rooms.free_frame() == frame,
-        "another lowest free frame",
-    )?;
-    let slot = free_slot(alloc, script, core)?;
-    agree(replay.rooms.free_slot() == slot, "another lowest free slot")
+    let state = replay.plain.state();
+    let rooms = &replay.rooms;
+    let frame = free_frame(alloc, script, &state.core)?;
+    let slot = free_slot(alloc, script, &state.core)?;
+    let wanted = accounts_of(alloc, script, state)?;
+    let held = room_accounts::accounts_of(rooms.parts(), rooms.script(), rooms.journal());
+    let same_held = are_same_accounts(&held, &wanted);
+    agree_all(&[
+        (rooms.free_frame() == frame, "another lowest free frame"),
+        (rooms.free_slot() == slot, "another lowest free slot"),
+        (same_held, "other accounts"),
+        (
+            are_kept(rooms.parts(), &wanted),
+            "other accounts that are kept",
+        ),
+    ])
 }
 
-/// Compares the counts of pages, frames and slots that are held or free.
-fn compare_accounts(replay: &Replay, alloc: Global) -> Result<(), Stop> {
-    let script = replay.plain.script();
-    let wanted = accounts_of(alloc, script, replay.plain.state())?;
-    let found = accounts_in(&replay.rooms);
-    agree(are_same_accounts(&found, &wanted), "other accounts")?;
-    agree(
-        are_kept(replay.rooms.parts(), &wanted),
-        "other accounts that are kept",
-    )
-}
-
-/// Goes on only if the parts tell what the plain device does.
+/// Compares what the parts tell with what the plain device does.
 pub fn compare_parts(replay: &Replay, alloc: Global) -> Result<(), Stop>
     requires { AreInStep replay.now.plain replay.now.rooms }
 {
-    compare_numbers(replay)?;
-    compare_entries(replay)?;
-    compare_answered(replay)?;
-    compare_jobs(replay)?;
-    compare_lists(replay)?;
-    compare_aperture(replay)?;
-    compare_free(replay, alloc)?;
-    compare_accounts(replay, alloc)?;
-    compare_buffers(replay, alloc)
+    compare_numbers(replay)
+        .and(compare_answered(replay))
+        .and(compare_jobs(replay))
+        .and(compare_lists(replay))
+        .and(compare_aperture(replay))
+        .and(compare_free(replay, alloc))
+        .and(compare_buffers(replay, alloc))
 }

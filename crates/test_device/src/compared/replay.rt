@@ -1,14 +1,14 @@
-ghost use Rattle.std.specs.Prelude.{◌≡◌, OnOk, OnErr, IfOk, IfSome, IsTrue};
-ghost use Rattle.journal_model.specs.scripts.ScriptRules.{is_script};
+ghost use Rattle.std.specs.Prelude.{◌≡◌, OnOk, OnErr, IfOk};
 ghost use Rattle.plain_device.specs.Kept.{entry_of, turn_of, after_turn};
 ghost use Rattle.test_device.specs.Steps.{AreInStep};
 
-use journal_model::{Entry, Script};
+use super::difference::Stop;
+use journal_model::Entry;
 use plain_device::Device;
 use room_state::Rooms;
 use rules_next::next;
 use rules_search::has_room;
-use script_text::{ScriptFault, read_script};
+use script_text::read_script;
 use std::alloc::Global;
 use ttm_base::{Actor, Need, NoMemory, Turn};
 
@@ -47,35 +47,21 @@ fn next_actor(plain: &Device) -> Result<Option<Actor>, NoMemory> {
 }
 
 impl Replay {
-    /// Makes a device and parts that haven't begun, of one script that was read twice.
-    fn begin(alloc: Global, script: Script, again: Script) -> Result<Replay, NoMemory>
-        requires same { script ≡ again }
-        requires fits { IsTrue (is_script script) }
-        requires parts { IsTrue (is_script again) }
+    /// Makes a device and parts that run the script of a text, which is read for each, and haven't begun.
+    ///
+    /// # Errors
+    ///
+    /// A text that is no script, and lack of memory.
+    pub fn of(alloc: Global, text: &[u8]) -> Result<Replay, Stop>
         ensures { IfOk result (λ replay. AreInStep replay.plain replay.rooms) }
     {
-        let plain = Device::new(alloc, script)?;
-        let rooms = Rooms::new(alloc, again)?;
+        let plain = Device::new(alloc, read_script(alloc, text)?)?;
+        let rooms = Rooms::new(alloc, read_script(alloc, text)?)?;
         Ok(Replay {
             alloc,
             plain,
             rooms,
         })
-    }
-
-    /// Makes a device and parts that run the script of a text and haven't begun, or returns `None` where that is no script.
-    ///
-    /// # Errors
-    ///
-    /// `NoMemory` if memory runs out.
-    pub fn of(alloc: Global, text: &[u8]) -> Result<Option<Replay>, NoMemory>
-        ensures { IfOk result (λ found. IfSome found (λ replay. AreInStep replay.plain replay.rooms)) }
-    {
-        match (read_script(alloc, text), read_script(alloc, text)) {
-            (Ok(script), Ok(again)) => Ok(Some(Replay::begin(alloc, script, again)?)),
-            (Err(ScriptFault::Bad { .. }), _) => Ok(None),
-            _ => Err(NoMemory),
-        }
     }
 
     /// Gives the parts the entry that `who` makes next on the device, if it has one.

@@ -1,7 +1,6 @@
 use io_edge::MemSink;
 use journal_model::{Entry, Script};
 use page_accounts::Accounts;
-use report_text::WriteFault;
 use report_text::report::{write_journal, write_outcome};
 use std::alloc::Global;
 use text_line::Line;
@@ -9,18 +8,6 @@ use ttm_base::NoMemory;
 
 /// The room for a report, in bytes.
 const ROOM: usize = 1 << 22;
-
-/// Writes the entries, results and accounts of a device.
-fn write_all_parts(
-    line: &mut Line,
-    script: &Script,
-    journal: &[Entry],
-    accounts: &Accounts,
-    sink: &mut MemSink,
-) -> Result<(), WriteFault> {
-    write_journal(line, script, journal, sink)?;
-    write_outcome(line, script, journal, accounts, sink)
-}
 
 /// Writes the report of a device: two legal journals of a script have two reports.
 ///
@@ -35,7 +22,9 @@ pub fn report_of(
 ) -> Result<MemSink, NoMemory> {
     let mut line = Line::new(alloc);
     let mut sink = MemSink::new(alloc, ROOM, ROOM, Vec::new(alloc))?;
-    match write_all_parts(&mut line, script, journal, accounts, &mut sink) {
+    let entries = write_journal(&mut line, script, journal, &mut sink);
+    let outcome = write_outcome(&mut line, script, journal, accounts, &mut sink);
+    match entries.and(outcome) {
         Ok(()) => Ok(sink),
         Err(_) => Err(NoMemory),
     }
@@ -44,13 +33,11 @@ pub fn report_of(
 /// Returns the number of the first line in which two texts differ, from 1.
 pub fn line_that_differs(one: &[u8], other: &[u8]) -> Option<u64> {
     let mut line = 1u64;
-    for (here, plain) in one.iter().zip(other.iter()) {
-        if *here != *plain {
+    for at in 0..one.len().min(other.len()) {
+        if one[at] != other[at] {
             return Some(line);
         }
-        if *here == b'\n' {
-            line = line.saturating_add(1);
-        }
+        line = line.saturating_add(u64::from(one[at] == b'\n'));
     }
     if one.len() == other.len() {
         None

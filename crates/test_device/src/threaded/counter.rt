@@ -16,14 +16,8 @@ pub struct Counter {
 }
 
 impl Counter {
-    pub fn new(alloc: Global, limit: u32) -> Counter
-        ensures { (result.limit ≡ limit) × (result.journal.items ≡ []) }
-    {
-        Counter::slow(alloc, limit, 0)
-    }
-
-    /// Makes a value whose steps take a while, so that workers that wait for a turn meanwhile do sleep.
-    pub fn slow(alloc: Global, limit: u32, rounds: u32) -> Counter
+    /// Makes a value whose steps take `rounds` rounds of a sum: with many, workers that wait for a turn meanwhile do sleep.
+    pub fn new(alloc: Global, limit: u32, rounds: u32) -> Counter
         ensures { (result.limit ≡ limit) × (result.journal.items ≡ []) }
     {
         Counter {

@@ -6,7 +6,7 @@ use std::alloc::Global;
 use std::io;
 use std::sync::Wait;
 use std::thread::Threads;
-use test_cases::{Case, Hold, no_memory};
+use test_cases::{Case, no_memory};
 
 /// The number of bytes that a read or a write moves at most.
 const CHUNK: usize = 4096;
@@ -22,59 +22,83 @@ fn results_of(report: &str) -> &str {
     }
 }
 
-/// Prints the status of a run, how many results its report has, how many of them are refusals, and the digest (SHA-256) of the lines of what was read: they
-/// are the same in all interleavings, since no thread touches another's buffers.
-fn print_results(rt: &impl Print, alloc: Global, outcome: &Outcome) -> io::Result<()> {
-    let status = outcome.status;
-    let report = str::from_utf8(outcome.output.as_slice()).unwrap_or("");
+/// Returns how many results there are, how many of them are refusals, and what the lines of what was read come to.
+fn counts_of(results: &str) -> (u64, u64, Sha256) {
     let mut reads = Sha256::new();
-    let mut results = 0u64;
+    let mut count = 0u64;
     let mut refused = 0u64;
-    for line in results_of(report).lines() {
-        results = results.saturating_add(1);
-        if line.contains("refused") {
-            refused = refused.saturating_add(1);
-        }
+    for line in results.lines() {
+        count = count.saturating_add(1);
+        refused = refused.saturating_add(u64::from(line.contains("refused")));
         if line.contains(" read ") {
             reads.update(line.as_bytes());
             reads.update(b"\n");
         }
     }
+    (count, refused, reads)
+}
+
+/// Prints what the `watch` saw of a run, its status, how many results its report has, how many of them are refusals, and the digest (SHA-256) of the lines of what was read: they
+/// are the same in all interleavings, since no thread touches another's buffers.
+fn print_results(
+    rt: &impl Print,
+    alloc: Global,
+    case: &Case,
+    watch: &Watch,
+    outcome: &Outcome,
+) -> io::Result<()> {
+    watch.print(rt, case)?;
+    let status = outcome.status;
+    let report = str::from_utf8(outcome.output.bytes()).unwrap_or("");
+    let (results, refused, reads) = counts_of(results_of(report));
     let digest = hex::encode(alloc, reads.finalize())?;
     println!(rt; "status {status}, {results} results, {refused} refused, reads {digest}")
 }
 
-/// Prints what a run on threads came to, and what is said of its report after its script.
+/// Prints what a run on threads came to, and puts its report behind its script.
 fn print_run(
     rt: &(impl Threads + Wait + Sync + Print),
     alloc: Global,
-    mut case: Case,
+    case: &mut Case,
 ) -> io::Result<()> {
-    let watch = Watch::new(case.watched.unwrap_or(Hold::Nobody));
-    let outcome = outcome_of(rt, alloc, &case, CHUNK, &watch)?;
-    watch.print(rt, &case)?;
-    print_results(rt, alloc, &outcome)?;
-    case.text.extend_from_slice(outcome.output.as_slice())?;
+    let watch = Watch::new(case.watched);
+    let outcome = outcome_of(rt, alloc, case, CHUNK, &watch)?;
+    print_results(rt, alloc, case, &watch, &outcome)?;
+    case.text.extend_from_slice(outcome.output.bytes())?;
+    Ok(())
+}
+
+/// Prints what is said of a script with a report behind it.
+fn print_verdict(
+    rt: &(impl Threads + Wait + Sync + Print),
+    alloc: Global,
+    case: &mut Case,
+) -> io::Result<()> {
     case.words.clear();
     case.words.push(String::from_str(alloc, "check")?)?;
-    let told = outcome_of(rt, alloc, &case, CHUNK, &Watch::new(Hold::Nobody))?;
+    let told = outcome_of(rt, alloc, case, CHUNK, &Watch::new(None))?;
     print_outcome(rt, "check", &told)
+}
+
+/// Prints the digest of a case's text.
+fn print_digest(rt: &impl Print, alloc: Global, case: &Case) -> io::Result<()> {
+    let digest = hex::encode(alloc, Sha256::digest(case.text.as_slice()))?;
+    let name = case.name.as_str();
+    println!(rt; "case {name}, script {digest}")
 }
 
 /// Draws a script from a number, and prints the digest of its text. If the case has words, runs it on threads, and has its report checked.
 pub fn run(
     rt: &(impl Threads + Wait + Sync + Print),
     alloc: Global,
-    mut case: Case,
+    case: &mut Case,
     number: u64,
 ) -> io::Result<()> {
     case.text = generated(alloc, number).map_err(no_memory)?;
-    let digest = hex::encode(alloc, Sha256::digest(case.text.as_slice()))?;
-    let name = case.name.as_str();
-    println!(rt; "case {name}, script {digest}")?;
+    print_digest(rt, alloc, case)?;
     if case.words.is_empty() {
-        Ok(())
-    } else {
-        print_run(rt, alloc, case)
+        return Ok(());
     }
+    print_run(rt, alloc, case)?;
+    print_verdict(rt, alloc, case)
 }

@@ -13,69 +13,48 @@ use worker_pool::Gate;
 /// The number of times that a worker looks for a flag at most.
 const MOST_LOOKS: u64 = 1_000_000_000;
 
-/// A flag that one worker raises and others wait for.
-#[derive(Drop)]
-struct Flag {
-    is_up: AtomicBool,
-    /// Whether some worker looked as often as it may.
-    is_missed: AtomicBool,
-}
-
-impl Flag {
-    fn new() -> Flag {
-        Flag {
-            is_up: AtomicBool::new(false),
-            is_missed: AtomicBool::new(false),
-        }
-    }
-
-    fn raise(&self) {
-        self.is_up.store(true, SeqCst);
-    }
-
-    fn wait(&self) {
-        for _look in 0..MOST_LOOKS {
-            if self.is_up.load(SeqCst) {
-                return;
-            }
-        }
-        self.is_missed.store(true, SeqCst);
-    }
-
-    /// Returns whether the flag was raised and no worker waited in vain.
-    fn is_met(&self) -> bool {
-        self.is_up.load(SeqCst) && !self.is_missed.load(SeqCst)
-    }
-}
-
-/// What was seen of turns and writes.
+/// What was seen of turns and writes, and two flags that one worker raises and others wait for.
 #[derive(Drop)]
 pub struct Watch {
     hold: Hold,
-    first: Flag,
-    second: Flag,
+    first: AtomicBool,
+    second: AtomicBool,
+    /// Whether some worker looked for a flag as often as it may.
+    is_missed: AtomicBool,
     turns: AtomicU64,
     writes: AtomicU64,
     is_late: AtomicBool,
 }
 
 impl Watch {
-    /// Makes a gate that holds workers as `hold` says.
-    pub fn new(hold: Hold) -> Watch {
+    /// Makes a gate that holds workers as `hold` says, or nobody. A flag that no worker waits for is up.
+    pub fn new(hold: Option<Hold>) -> Watch {
+        let hold = hold.unwrap_or(Hold::Nobody);
         Watch {
             hold,
-            first: Flag::new(),
-            second: Flag::new(),
+            first: AtomicBool::new(matches!(hold, Hold::Nobody)),
+            second: AtomicBool::new(matches!(hold, Hold::Nobody | Hold::UntilSeventhOf(_))),
+            is_missed: AtomicBool::new(false),
             turns: AtomicU64::new(0),
             writes: AtomicU64::new(0),
             is_late: AtomicBool::new(false),
         }
     }
 
+    /// Waits until `flag` is up.
+    fn wait(&self, flag: &AtomicBool) {
+        for _look in 0..MOST_LOOKS {
+            if flag.load(SeqCst) {
+                return;
+            }
+        }
+        self.is_missed.store(true, SeqCst);
+    }
+
     /// Raises the flag `own`, and waits for `other`.
-    fn meet(&self, own: &Flag, other: &Flag) {
-        own.raise();
-        other.wait();
+    fn meet(&self, own: &AtomicBool, other: &AtomicBool) {
+        own.store(true, SeqCst);
+        self.wait(other);
     }
 
     /// Holds `worker` before its turn `turn`, if the gate holds it there.
@@ -86,39 +65,32 @@ impl Watch {
                 &self.second,
             ),
             (Hold::UntilTheyMeet, 2, 1) => self.meet(&self.second, &self.first),
-            (Hold::UntilSeventhOf(ahead), _, 7) if worker == ahead => self.first.raise(),
-            (Hold::UntilSeventhOf(ahead), _, 1) if worker != ahead => self.first.wait(),
-            (Hold::InBatchOfFirst, _, 1) if worker != 1 => self.first.wait(),
-            (Hold::InBatchOfFirst, _, 3) if worker != 1 => self.second.raise(),
+            (Hold::UntilSeventhOf(ahead), _, 7) if worker == ahead => self
+                .first
+                .store(true, SeqCst),
+            (Hold::UntilSeventhOf(ahead), _, 1) if worker != ahead => self.wait(&self.first),
+            (Hold::InBatchOfFirst, _, 1) if worker != 1 => self.wait(&self.first),
+            (Hold::InBatchOfFirst, _, 3) if worker != 1 => self.second.store(true, SeqCst),
             _ => {}
         }
     }
 
     /// Returns whether each worker that was held was let go by the one that it waited for.
     pub fn has_held(&self) -> bool {
-        match self.hold {
-            Hold::Nobody => true,
-            Hold::UntilSeventhOf(_) => self.first.is_met(),
-            Hold::UntilTheyMeet | Hold::InBatchOfFirst => self.first.is_met()
-                && self.second.is_met(),
-        }
+        self.first.load(SeqCst) & self.second.load(SeqCst) & !self.is_missed.load(SeqCst)
     }
 
-    /// Returns whether there were `least` turns or more and something was written, and no turn after that.
-    fn came_last(&self, least: u64) -> bool {
-        self.turns.load(SeqCst) >= least
-            && self.writes.load(SeqCst) > 0
-            && !self.is_late.load(SeqCst)
-    }
-
-    /// Prints what was seen, if the case asks for it.
+    /// Prints what was seen, if the case asks for it: whether workers were held, and whether there were enough turns and something was
+    /// written, and no turn after that.
     pub fn print(&self, rt: &impl Print, case: &Case) -> io::Result<()> {
         if case.watched.is_none() {
             return Ok(());
         }
         let turns = case.least_turns;
         let held = self.has_held();
-        let last = self.came_last(turns);
+        let is_enough = self.turns.load(SeqCst) >= turns;
+        let is_written = self.writes.load(SeqCst) > 0;
+        let last = is_enough & is_written & !self.is_late.load(SeqCst);
         println!(rt; "workers held: {held}, then written, after {turns} turns or more: {last}")
     }
 }
@@ -134,7 +106,6 @@ impl Gate for Watch {
 }
 
 /// A sink that tells the watch of each write.
-#[derive(Drop)]
 pub struct WatchedSink<'a> {
     pub sink: MemSink,
     pub watch: &'a Watch,
