@@ -69,6 +69,12 @@ fn goes_next(rt: &impl Abort, alloc: Global, script: &Script, state: &State, who
     );
 }
 
+/// Asserts that nothing is left to do, or that something is.
+fn assert_over(rt: &impl Abort, script: &Script, state: &State, want: bool) {
+    ensure(rt, has_room(script, state));
+    ensure(rt, is_over(script, state) == want);
+}
+
 #[test]
 fn engines_go_before_threads_and_elders_before_others(rt: HostRuntime) {
     let rt = &rt;
@@ -77,7 +83,7 @@ fn engines_go_before_threads_and_elders_before_others(rt: HostRuntime) {
     let mut state = state_with_tickets(rt, alloc);
     assert_order(rt, &script, &state, ORDER);
     goes_next(rt, alloc, &script, &state, Actor::Engine(1));
-    ensure(rt, !is_over(&script, &state));
+    assert_over(rt, &script, &state, false);
     state.core.jobs.finish(JOB);
-    ensure(rt, is_over(&script, &state));
+    assert_over(rt, &script, &state, true);
 }
