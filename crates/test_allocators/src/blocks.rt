@@ -83,29 +83,41 @@ fn take(
     drop(blocks);
 }
 
-/// Asserts that the request would get the blocks that are wanted, and gets them.
-fn answer(rt: &impl Abort, alloc: Global, manager: &mut BuddyManager, pages: u32, row: &Row) {
-    let (flags, range, want) = *row;
+/// Asserts that the request would get the first blocks of these, as many as are wanted, and gets them. Returns the others.
+fn answer<'a>(
+    rt: &impl Abort,
+    alloc: Global,
+    manager: &mut BuddyManager,
+    pages: u32,
+    row: &Row,
+    blocks: &'a [Span],
+) -> &'a [Span] {
+    let (flags, range, count) = *row;
+    ensure(rt, count <= blocks.len());
+    let (want, others) = blocks.split_at(count);
     choose(rt, alloc, manager, pages, range, flags, want);
     take(rt, alloc, manager, pages, range, flags, want);
+    others
 }
 
-/// Holds the page.
-fn hold_page(rt: &impl Abort, alloc: Global, manager: &mut BuddyManager, page: u32) {
-    let range = (page, page.saturating_add(1));
-    drop(got(rt, alloc, manager, 1, range, PLAIN));
+/// Holds the page, if there is one.
+fn hold_page(rt: &impl Abort, alloc: Global, manager: &mut BuddyManager, page: Option<u32>) {
+    if let Some(page) = page {
+        let range = (page, page.saturating_add(1));
+        drop(got(rt, alloc, manager, 1, range, PLAIN));
+    }
 }
 
 /// Asserts that each request is answered as is wanted.
 fn answers(rt: &impl Abort, alloc: Global, table: &Table) {
     let mut manager = BuddyManager::new(alloc, table.size).expect(rt, "a manager");
-    for page in table.held {
-        hold_page(rt, alloc, &mut manager, *page);
-    }
+    hold_page(rt, alloc, &mut manager, table.held.0);
+    hold_page(rt, alloc, &mut manager, table.held.1);
+    let mut blocks = table.blocks;
     for row in table.rows {
-        answer(rt, alloc, &mut manager, table.pages, row);
+        blocks = answer(rt, alloc, &mut manager, table.pages, row, blocks);
     }
-    drop(manager);
+    ensure(rt, blocks.is_empty());
 }
 
 /// Each table is answered as is wanted, and a manager of too many pages isn't made.

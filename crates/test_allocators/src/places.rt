@@ -27,28 +27,23 @@ const REACHES: &[Reach] = &[
     (9, 0, 8, (8, 8)),
 ];
 
-/// Asserts that the place reaches the pages.
-fn reaches(rt: &impl Abort, row: &Reach) {
-    let (first, last, size, reached) = *row;
-    let place = Place {
-        first,
-        last,
-        ..WHOLE
-    };
-    ensure(rt, reach(&place, size) == reached);
-}
-
 #[test]
 fn reach_of_a_place(rt: HostRuntime) {
-    for row in REACHES {
-        reaches(&rt, row);
+    for (first, last, size, reached) in REACHES {
+        let place = Place {
+            first: *first,
+            last: *last,
+            ..WHOLE
+        };
+        ensure(&rt, reach(&place, *size) == *reached);
     }
 }
 
+const TWO_SPANS: &[Span] = &[Span { start: 2, end: 4 }, Span { start: 6, end: 7 }];
+
 /// Returns two spans with a gap between them.
 fn two_spans(rt: &impl Abort, alloc: Global) -> Spans {
-    let spans = [Span { start: 2, end: 4 }, Span { start: 6, end: 7 }];
-    Spans::from_slice(alloc, &spans).expect(rt, "spans")
+    Spans::from_slice(alloc, TWO_SPANS).expect(rt, "spans")
 }
 
 /// Pages from a first up to a last, and whether the spans have one of them.
@@ -59,15 +54,6 @@ const MEETINGS: &[((u32, u32), bool)] = &[
     ((6, 8), true),
     ((3, 3), false),
 ];
-
-#[test]
-fn spans_in_a_reach(rt: HostRuntime) {
-    let spans = two_spans(&rt, rt.alloc());
-    for (within, met) in MEETINGS {
-        ensure(&rt, intersects(&spans, *within) == *met);
-    }
-    drop(spans);
-}
 
 /// The memory type in which a resource of two spans stands, a place, and whether it fits.
 const FITS: &[(Mem, Place, bool)] = &[
@@ -118,20 +104,21 @@ fn assert_fit(rt: &impl Abort, alloc: Global, spans: &Spans, row: &(Mem, Place, 
     };
     let placement = placement(rt, alloc, &[unflagged]);
     ensure(rt, compatible(row.0, spans, &placement, 8) == row.2);
-    drop(placement);
 }
 
 #[test]
-fn resources_that_fit(rt: HostRuntime) {
+fn spans_in_a_reach_and_resources_that_fit(rt: HostRuntime) {
     let spans = two_spans(&rt, rt.alloc());
+    for (within, met) in MEETINGS {
+        ensure(&rt, intersects(&spans, *within) == *met);
+    }
     for row in FITS {
         assert_fit(&rt, rt.alloc(), &spans, row);
     }
-    drop(spans);
 }
 
 /// The list `vram+desired, tt+fallback, sys`.
-const FLAGGED: [FlaggedPlace; 3] = [
+const FLAGGED: &[FlaggedPlace] = &[
     FlaggedPlace {
         place: WHOLE,
         desired: true,
@@ -163,7 +150,7 @@ fn is_in(rt: &impl Abort, place: &Place, mem: Mem) {
 #[test]
 fn places_by_their_flags(rt: HostRuntime) {
     let rt = &rt;
-    let placement = placement(rt, rt.alloc(), &FLAGGED);
+    let placement = placement(rt, rt.alloc(), FLAGGED);
     ensure(rt, first_count(&placement) == 2);
     is_in(rt, first_at(&placement, 0), Mem::Vram);
     is_in(rt, first_at(&placement, 1), Mem::System);
@@ -174,7 +161,7 @@ fn places_by_their_flags(rt: HostRuntime) {
 }
 
 /// Three spans, of which one is empty.
-const SPANS: [Span; 3] = [
+const SPANS: &[Span] = &[
     Span { start: 7, end: 9 },
     Span { start: 5, end: 5 },
     Span { start: 0, end: 3 },
@@ -183,16 +170,11 @@ const SPANS: [Span; 3] = [
 /// The pages of `SPANS`, in order.
 const PAGES: &[u32] = &[7, 8, 0, 1, 2];
 
-/// Asserts that the cursor gives the pages, and then none.
-fn assert_pages(rt: &impl Abort, cursor: &mut PageCursor, pages: &[u32]) {
-    for page in pages {
-        ensure(rt, cursor.next() == Some(*page));
-    }
-    ensure(rt, cursor.next().is_none());
-}
-
 #[test]
 fn pages_of_spans_in_order(rt: HostRuntime) {
-    let mut cursor = PageCursor::new(&SPANS);
-    assert_pages(&rt, &mut cursor, PAGES);
+    let mut cursor = PageCursor::new(SPANS);
+    for page in PAGES {
+        ensure(&rt, cursor.next() == Some(*page));
+    }
+    ensure(&rt, cursor.next().is_none());
 }

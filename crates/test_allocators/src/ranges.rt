@@ -23,8 +23,12 @@ struct Request {
 
 /// A call to a manager of 16 pages, and the answer to it.
 enum Step {
-    /// Holds spans of free pages.
-    Hold(&'static [Span]),
+    /// Makes a manager, which the steps after it call.
+    New,
+    /// Holds five spans, which have all pages.
+    HoldFive,
+    /// Holds a span of free pages.
+    Hold(Span),
     /// The span can't be held, since a page of it is.
     Refuse(Span),
     /// Lets the span go that is held from this page on.
@@ -37,9 +41,9 @@ enum Step {
     Lengths(u32, u32),
 }
 
-/// Holds spans of free pages.
-fn hold(rt: &impl Abort, manager: &mut RangeManager, spans: &[Span]) {
-    for span in spans {
+/// Holds five spans of free pages.
+fn hold_five(rt: &impl Abort, manager: &mut RangeManager) {
+    for span in FIVE {
         ensure(rt, manager.reserve(*span).is_ok());
     }
 }
@@ -68,9 +72,11 @@ fn insert(
 }
 
 /// Asserts that the step is answered as is wanted.
-fn run(rt: &impl Abort, manager: &mut RangeManager, step: &Step) {
+fn run(rt: &impl Abort, alloc: Global, manager: &mut RangeManager, step: &Step) {
     match step {
-        Step::Hold(spans) => hold(rt, manager, spans),
+        Step::New => *manager = new_manager(rt, alloc),
+        Step::HoldFive => hold_five(rt, manager),
+        Step::Hold(span) => ensure(rt, manager.reserve(*span).is_ok()),
         Step::Refuse(span) => {
             ensure(rt, manager.reserve(*span) == Err(InsertFault::NoHole));
         }
@@ -81,13 +87,9 @@ fn run(rt: &impl Abort, manager: &mut RangeManager, step: &Step) {
     }
 }
 
-/// Asserts that a manager of 16 pages answers each step as is wanted.
-fn answers(rt: &impl Abort, alloc: Global, steps: &[Step]) {
-    let mut manager = RangeManager::new(alloc, 16).expect(rt, "a manager");
-    for step in steps {
-        run(rt, &mut manager, step);
-    }
-    drop(manager);
+/// Makes a manager of 16 pages.
+fn new_manager(rt: &impl Abort, alloc: Global) -> RangeManager {
+    RangeManager::new(alloc, 16).expect(rt, "a manager")
 }
 
 /// A request for no pages in any place, by the best fit.
@@ -99,34 +101,33 @@ const ANYWHERE: Request = Request {
     mode: Mode::Best,
 };
 
-/// The steps of one manager each.
-const CASES: &[&[Step]] = &[
+/// The steps of managers. (One list of them: each list in a constant adds to the proof of the function that names it.)
+const STEPS: &[Step] = &[
     // in each mode
-    &[
-        Step::Hold(FIVE),
-        Step::LetGo(4),
-        Step::LetGo(10),
-        Step::Insert(
-            Request {
-                pages: 1,
-                mode: Mode::Low,
-                ..ANYWHERE
-            },
-            Ok(Span { start: 4, end: 5 }),
-        ),
-    ],
-    &[
-        Step::Hold(&[Span { start: 0, end: 3 }]),
-        Step::Insert(
-            Request {
-                pages: 4,
-                align: 4,
-                ..ANYWHERE
-            },
-            Ok(Span { start: 4, end: 8 }),
-        ),
-    ],
-    &[Step::Insert(
+    Step::New,
+    Step::HoldFive,
+    Step::LetGo(4),
+    Step::LetGo(10),
+    Step::Insert(
+        Request {
+            pages: 1,
+            mode: Mode::Low,
+            ..ANYWHERE
+        },
+        Ok(Span { start: 4, end: 5 }),
+    ),
+    Step::New,
+    Step::Hold(Span { start: 0, end: 3 }),
+    Step::Insert(
+        Request {
+            pages: 4,
+            align: 4,
+            ..ANYWHERE
+        },
+        Ok(Span { start: 4, end: 8 }),
+    ),
+    Step::New,
+    Step::Insert(
         Request {
             pages: 4,
             align: 8,
@@ -134,8 +135,9 @@ const CASES: &[&[Step]] = &[
             ..ANYWHERE
         },
         Ok(Span { start: 8, end: 12 }),
-    )],
-    &[Step::Insert(
+    ),
+    Step::New,
+    Step::Insert(
         Request {
             pages: 4,
             first: 2,
@@ -143,215 +145,202 @@ const CASES: &[&[Step]] = &[
             ..ANYWHERE
         },
         Err(InsertFault::NoHole),
-    )],
+    ),
     // the rest of a hole is free
-    &[
-        Step::Hold(&[Span { start: 5, end: 7 }]),
-        Step::Insert(
-            Request {
-                pages: 5,
-                ..ANYWHERE
-            },
-            Ok(Span { start: 0, end: 5 }),
-        ),
-    ],
-    &[
-        Step::Hold(&[Span { start: 5, end: 7 }]),
-        Step::Insert(
-            Request {
-                pages: 6,
-                mode: Mode::Low,
-                ..ANYWHERE
-            },
-            Ok(Span { start: 7, end: 13 }),
-        ),
-    ],
-    &[
-        Step::Hold(&[Span { start: 12, end: 16 }]),
-        Step::Insert(
-            Request {
-                pages: 3,
-                mode: Mode::High,
-                ..ANYWHERE
-            },
-            Ok(Span { start: 9, end: 12 }),
-        ),
-    ],
-    &[
-        Step::Hold(&[
-            Span { start: 0, end: 4 },
-            Span { start: 8, end: 16 },
-            Span { start: 4, end: 8 },
-        ]),
-        Step::Insert(
-            Request {
-                pages: 1,
-                mode: Mode::Low,
-                ..ANYWHERE
-            },
-            Err(InsertFault::NoHole),
-        ),
-    ],
+    Step::New,
+    Step::Hold(Span { start: 5, end: 7 }),
+    Step::Insert(
+        Request {
+            pages: 5,
+            ..ANYWHERE
+        },
+        Ok(Span { start: 0, end: 5 }),
+    ),
+    Step::New,
+    Step::Hold(Span { start: 5, end: 7 }),
+    Step::Insert(
+        Request {
+            pages: 6,
+            mode: Mode::Low,
+            ..ANYWHERE
+        },
+        Ok(Span { start: 7, end: 13 }),
+    ),
+    Step::New,
+    Step::Hold(Span { start: 12, end: 16 }),
+    Step::Insert(
+        Request {
+            pages: 3,
+            mode: Mode::High,
+            ..ANYWHERE
+        },
+        Ok(Span { start: 9, end: 12 }),
+    ),
+    Step::New,
+    Step::Hold(Span { start: 0, end: 4 }),
+    Step::Hold(Span { start: 8, end: 16 }),
+    Step::Hold(Span { start: 4, end: 8 }),
+    Step::Insert(
+        Request {
+            pages: 1,
+            mode: Mode::Low,
+            ..ANYWHERE
+        },
+        Err(InsertFault::NoHole),
+    ),
     // holes that touch are joined
-    &[
-        Step::Hold(FIVE),
-        Step::LetGo(4),
-        Step::Insert(
-            Request {
-                pages: 2,
-                ..ANYWHERE
-            },
-            Ok(Span { start: 4, end: 6 }),
-        ),
-    ],
-    &[
-        Step::Hold(FIVE),
-        Step::LetGo(4),
-        Step::LetGo(10),
-        Step::Insert(
-            Request {
-                pages: 3,
-                ..ANYWHERE
-            },
-            Err(InsertFault::NoHole),
-        ),
-    ],
-    &[
-        Step::Hold(FIVE),
-        Step::LetGo(4),
-        Step::LetGo(6),
-        Step::Insert(
-            Request {
-                pages: 6,
-                ..ANYWHERE
-            },
-            Ok(Span { start: 4, end: 10 }),
-        ),
-    ],
-    &[
-        Step::Hold(FIVE),
-        Step::LetGo(6),
-        Step::LetGo(4),
-        Step::Insert(
-            Request {
-                pages: 6,
-                ..ANYWHERE
-            },
-            Ok(Span { start: 4, end: 10 }),
-        ),
-    ],
-    &[
-        Step::Hold(FIVE),
-        Step::LetGo(0),
-        Step::LetGo(6),
-        Step::LetGo(4),
-        Step::Insert(
-            Request {
-                pages: 10,
-                ..ANYWHERE
-            },
-            Ok(Span { start: 0, end: 10 }),
-        ),
-    ],
+    Step::New,
+    Step::HoldFive,
+    Step::LetGo(4),
+    Step::Insert(
+        Request {
+            pages: 2,
+            ..ANYWHERE
+        },
+        Ok(Span { start: 4, end: 6 }),
+    ),
+    Step::New,
+    Step::HoldFive,
+    Step::LetGo(4),
+    Step::LetGo(10),
+    Step::Insert(
+        Request {
+            pages: 3,
+            ..ANYWHERE
+        },
+        Err(InsertFault::NoHole),
+    ),
+    Step::New,
+    Step::HoldFive,
+    Step::LetGo(4),
+    Step::LetGo(6),
+    Step::Insert(
+        Request {
+            pages: 6,
+            ..ANYWHERE
+        },
+        Ok(Span { start: 4, end: 10 }),
+    ),
+    Step::New,
+    Step::HoldFive,
+    Step::LetGo(6),
+    Step::LetGo(4),
+    Step::Insert(
+        Request {
+            pages: 6,
+            ..ANYWHERE
+        },
+        Ok(Span { start: 4, end: 10 }),
+    ),
+    Step::New,
+    Step::HoldFive,
+    Step::LetGo(0),
+    Step::LetGo(6),
+    Step::LetGo(4),
+    Step::Insert(
+        Request {
+            pages: 10,
+            ..ANYWHERE
+        },
+        Ok(Span { start: 0, end: 10 }),
+    ),
     // the best fit and the highest
-    &[
-        Step::Insert(
-            Request {
-                pages: 4,
-                ..ANYWHERE
-            },
-            Ok(Span { start: 0, end: 4 }),
-        ),
-        Step::Insert(
-            Request {
-                pages: 2,
-                ..ANYWHERE
-            },
-            Ok(Span { start: 4, end: 6 }),
-        ),
-        Step::Insert(
-            Request {
-                pages: 4,
-                ..ANYWHERE
-            },
-            Ok(Span { start: 6, end: 10 }),
-        ),
-        Step::Insert(
-            Request {
-                pages: 1,
-                ..ANYWHERE
-            },
-            Ok(Span { start: 10, end: 11 }),
-        ),
-        Step::Insert(
-            Request {
-                pages: 5,
-                ..ANYWHERE
-            },
-            Ok(Span { start: 11, end: 16 }),
-        ),
-        Step::Lengths(0, 16),
-        Step::LetGo(4),
-        Step::LetGo(10),
-        Step::Lengths(3, 13),
-        Step::Insert(
-            Request {
-                pages: 1,
-                ..ANYWHERE
-            },
-            Ok(Span { start: 10, end: 11 }),
-        ),
-        Step::Insert(
-            Request {
-                pages: 1,
-                mode: Mode::High,
-                ..ANYWHERE
-            },
-            Ok(Span { start: 5, end: 6 }),
-        ),
-    ],
+    Step::New,
+    Step::Insert(
+        Request {
+            pages: 4,
+            ..ANYWHERE
+        },
+        Ok(Span { start: 0, end: 4 }),
+    ),
+    Step::Insert(
+        Request {
+            pages: 2,
+            ..ANYWHERE
+        },
+        Ok(Span { start: 4, end: 6 }),
+    ),
+    Step::Insert(
+        Request {
+            pages: 4,
+            ..ANYWHERE
+        },
+        Ok(Span { start: 6, end: 10 }),
+    ),
+    Step::Insert(
+        Request {
+            pages: 1,
+            ..ANYWHERE
+        },
+        Ok(Span { start: 10, end: 11 }),
+    ),
+    Step::Insert(
+        Request {
+            pages: 5,
+            ..ANYWHERE
+        },
+        Ok(Span { start: 11, end: 16 }),
+    ),
+    Step::Lengths(0, 16),
+    Step::LetGo(4),
+    Step::LetGo(10),
+    Step::Lengths(3, 13),
+    Step::Insert(
+        Request {
+            pages: 1,
+            ..ANYWHERE
+        },
+        Ok(Span { start: 10, end: 11 }),
+    ),
+    Step::Insert(
+        Request {
+            pages: 1,
+            mode: Mode::High,
+            ..ANYWHERE
+        },
+        Ok(Span { start: 5, end: 6 }),
+    ),
     // what is held isn't held twice
-    &[
-        Step::Hold(&[Span { start: 4, end: 8 }]),
-        Step::Refuse(Span { start: 4, end: 8 }),
-    ],
+    Step::New,
+    Step::Hold(Span { start: 4, end: 8 }),
+    Step::Refuse(Span { start: 4, end: 8 }),
     // a choice holds nothing until it is reserved
-    &[
-        Step::Choose(
-            Request {
-                pages: 4,
-                mode: Mode::Low,
-                ..ANYWHERE
-            },
-            Some(Span { start: 0, end: 4 }),
-        ),
-        Step::Lengths(16, 0),
-        Step::Hold(&[Span { start: 0, end: 4 }]),
-        Step::Insert(
-            Request {
-                pages: 4,
-                mode: Mode::Low,
-                ..ANYWHERE
-            },
-            Ok(Span { start: 4, end: 8 }),
-        ),
-        Step::Choose(
-            Request {
-                pages: 4,
-                last: 8,
-                mode: Mode::Low,
-                ..ANYWHERE
-            },
-            None,
-        ),
-    ],
+    Step::New,
+    Step::Choose(
+        Request {
+            pages: 4,
+            mode: Mode::Low,
+            ..ANYWHERE
+        },
+        Some(Span { start: 0, end: 4 }),
+    ),
+    Step::Lengths(16, 0),
+    Step::Hold(Span { start: 0, end: 4 }),
+    Step::Insert(
+        Request {
+            pages: 4,
+            mode: Mode::Low,
+            ..ANYWHERE
+        },
+        Ok(Span { start: 4, end: 8 }),
+    ),
+    Step::Choose(
+        Request {
+            pages: 4,
+            last: 8,
+            mode: Mode::Low,
+            ..ANYWHERE
+        },
+        None,
+    ),
 ];
 
 #[test]
 fn range_manager_answers(rt: HostRuntime) {
     let alloc = rt.alloc();
     let rt = &rt;
-    for steps in CASES {
-        answers(rt, alloc, steps);
+    let mut manager = new_manager(rt, alloc);
+    for step in STEPS {
+        run(rt, alloc, &mut manager, step);
     }
 }

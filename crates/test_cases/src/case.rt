@@ -106,44 +106,92 @@ fn broken() -> Error {
     Error::from(ErrorKind::InvalidData)
 }
 
-fn numbers(alloc: Global, words: &str) -> Result<Vec<u64>> {
-    let mut found = Vec::new(alloc);
-    for word in words.split_whitespace() {
-        found.push(word.parse::<u64>().map_err(|_| broken())?)?;
+/// Reads the number that `word` is.
+fn number(word: &str) -> Result<u64> {
+    match word.parse::<u64>() {
+        Ok(number) => Ok(number),
+        Err(_) => Err(broken()),
     }
-    Ok(found)
 }
 
-fn actors(alloc: Global, words: &str) -> Result<Vec<Actor>> {
-    let mut found = Vec::new(alloc);
+/// Reads the numbers of `words` into `list`, which has then no others.
+fn read_numbers(list: &mut Vec<u64>, words: &str) -> Result<()> {
+    list.clear();
+    for word in words.split_whitespace() {
+        list.push(number(word)?)?;
+    }
+    Ok(())
+}
+
+/// Reads the actors of `words`, and adds them to `list`.
+fn add_actors(list: &mut Vec<Actor>, words: &str) -> Result<()> {
     for word in words.split_whitespace() {
         match actor(u32::MAX, u32::MAX, word.as_bytes()) {
-            ActorWord::Is(who) => found.push(who)?,
+            ActorWord::Is(who) => list.push(who)?,
             _ => return Err(broken()),
         }
     }
-    Ok(found)
+    Ok(())
+}
+
+/// Lines that say what a case runs.
+const FORMS: &[(&str, Form)] = &[
+    ("compare each entry", Form::Devices(When::EachEntry)),
+    ("compare at the end", Form::Devices(When::AtTheEnd)),
+    ("count", Form::Workers(Pace::Fast)),
+    ("count slowly", Form::Workers(Pace::Slow)),
+    ("count alone", Form::OneWorker),
+];
+
+/// Lines that say how a gate holds the workers.
+const HOLDS: &[(&str, Hold)] = &[
+    ("watch", Hold::Nobody),
+    ("watch two that meet", Hold::UntilTheyMeet),
+    ("watch worker 1 ahead", Hold::UntilSeventhOf(1)),
+    ("watch worker 2 ahead", Hold::UntilSeventhOf(2)),
+    ("watch worker 1 held", Hold::InBatchOfFirst),
+];
+
+/// What a line with more words tells.
+#[derive(Clone, Copy)]
+enum Told {
+    Chunks,
+    ReadFails,
+    WriteFails,
+    Steps,
+    Turns,
+    Drawn,
+    Letters,
+}
+
+/// The first words of lines with more words.
+const HEADS: &[(&str, Told)] = &[
+    ("chunks ", Told::Chunks),
+    ("read fails ", Told::ReadFails),
+    ("write fails ", Told::WriteFails),
+    ("steps ", Told::Steps),
+    ("turns ", Told::Turns),
+    ("draw ", Told::Drawn),
+    ("letters ", Told::Letters),
+];
+
+/// Returns what `line` stands for in `rows`, if it stands there.
+fn found<T: Copy>(rows: &[(&str, T)], line: &str) -> Option<T> {
+    for (text, meaning) in rows {
+        if *text == line {
+            return Some(*meaning);
+        }
+    }
+    None
 }
 
 impl Case {
-    /// Begins the case of `line`, with an empty text. It is run with 1 and with 4,096 bytes at a time.
-    pub(crate) fn begin(alloc: Global, line: &str) -> Result<Case> {
-        let Some(title) = line.strip_prefix("case ") else {
-            return Err(broken());
-        };
-        let mut words = Vec::new(alloc);
-        let mut name = String::new(alloc);
-        for word in title.split_whitespace() {
-            if name.is_empty() {
-                name.push_str(word)?;
-            } else {
-                words.push(String::from_str(alloc, word)?)?;
-            }
-        }
-        Ok(Case {
-            name,
-            words,
-            chunks: Vec::from_slice(alloc, &[1, 4096])?,
+    /// Makes a case without a name. It is run with no number of bytes at a time.
+    fn unnamed(alloc: Global) -> Case {
+        Case {
+            name: String::new(alloc),
+            words: Vec::new(alloc),
+            chunks: Vec::new(alloc),
             read_fails: Vec::new(alloc),
             write_fails: Vec::new(alloc),
             steps: Vec::new(alloc),
@@ -155,53 +203,80 @@ impl Case {
             least_turns: 1,
             form: Form::Program,
             text: Vec::new(alloc),
-        })
+        }
+    }
+
+    /// Takes the name and the words of `title`.
+    fn set_title(&mut self, alloc: Global, title: &str) -> Result<()> {
+        for word in title.split_whitespace() {
+            if self.name.is_empty() {
+                self.name.push_str(word)?;
+            } else {
+                self.words.push(String::from_str(alloc, word)?)?;
+            }
+        }
+        Ok(())
+    }
+
+    /// Begins the case of `line`, with an empty text. It is run with 1 and with 4,096 bytes at a time.
+    pub(crate) fn begin(alloc: Global, line: &str) -> Result<Case> {
+        let Some(title) = line.strip_prefix("case ") else {
+            return Err(broken());
+        };
+        let mut case = Case::unnamed(alloc);
+        case.set_title(alloc, title)?;
+        case.chunks.extend_from_slice(&[1, 4096])?;
+        Ok(case)
     }
 
     /// Takes `line`, which stands between the first and `text`.
     pub(crate) fn set(&mut self, alloc: Global, line: &str) -> Result<()> {
-        match line {
-            "to the end" => self.to_the_end = true,
-            "aperture" => self.shows_aperture = true,
-            "tell turns" => self.tells_turns = true,
-            "mapping" => self.shows_mapping = true,
-            "compare each entry" => self.form = Form::Devices(When::EachEntry),
-            "compare at the end" => self.form = Form::Devices(When::AtTheEnd),
-            "count" => self.form = Form::Workers(Pace::Fast),
-            "count slowly" => self.form = Form::Workers(Pace::Slow),
-            "count alone" => self.form = Form::OneWorker,
-            "watch" => self.watched = Some(Hold::Nobody),
-            "watch two that meet" => self.watched = Some(Hold::UntilTheyMeet),
-            "watch worker 1 ahead" => self.watched = Some(Hold::UntilSeventhOf(1)),
-            "watch worker 2 ahead" => self.watched = Some(Hold::UntilSeventhOf(2)),
-            "watch worker 1 held" => self.watched = Some(Hold::InBatchOfFirst),
-            _ => return self.set_list(alloc, line),
+        if let Some(form) = found(FORMS, line) {
+            self.form = form;
+        } else if let Some(hold) = found(HOLDS, line) {
+            self.watched = Some(hold);
+        } else {
+            match line {
+                "to the end" => self.to_the_end = true,
+                "aperture" => self.shows_aperture = true,
+                "tell turns" => self.tells_turns = true,
+                "mapping" => self.shows_mapping = true,
+                _ => return self.set_list(alloc, line),
+            }
         }
         Ok(())
     }
 
     /// Takes a line with numbers or actors.
     fn set_list(&mut self, alloc: Global, line: &str) -> Result<()> {
-        if let Some(words) = line.strip_prefix("chunks ") {
-            self.chunks = numbers(alloc, words)?;
-        } else if let Some(words) = line.strip_prefix("read fails ") {
-            self.read_fails = numbers(alloc, words)?;
-        } else if let Some(words) = line.strip_prefix("write fails ") {
-            self.write_fails = numbers(alloc, words)?;
-        } else if let Some(words) = line.strip_prefix("steps ") {
-            for who in actors(alloc, words)? {
-                self.steps.push(who)?;
+        for (head, told) in HEADS {
+            if let Some(words) = line.strip_prefix(*head) {
+                return self.set_words(alloc, *told, words);
             }
-        } else if let Some(count) = line.strip_prefix("turns ") {
-            self.least_turns = count.parse::<u64>().map_err(|_| broken())?;
-        } else if let Some(number) = line.strip_prefix("draw ") {
-            self.form = Form::Drawn(number.parse::<u64>().map_err(|_| broken())?);
-        } else if let Some(count) = line.strip_prefix("letters ") {
-            self.put_letters(alloc, count.parse::<u32>().map_err(|_| broken())?)?;
-        } else {
-            return Err(broken());
         }
-        Ok(())
+        Err(broken())
+    }
+
+    /// Takes the words of a line after the first ones, by which they tell this.
+    fn set_words(&mut self, alloc: Global, told: Told, words: &str) -> Result<()> {
+        match told {
+            Told::Chunks => read_numbers(&mut self.chunks, words),
+            Told::ReadFails => read_numbers(&mut self.read_fails, words),
+            Told::WriteFails => read_numbers(&mut self.write_fails, words),
+            Told::Steps => add_actors(&mut self.steps, words),
+            Told::Turns => {
+                self.least_turns = number(words)?;
+                Ok(())
+            }
+            Told::Drawn => {
+                self.form = Form::Drawn(number(words)?);
+                Ok(())
+            }
+            Told::Letters => match words.parse::<u32>() {
+                Ok(count) => self.put_letters(alloc, count),
+                Err(_) => Err(broken()),
+            },
+        }
     }
 
     /// Adds `count` letters x at the end of the text.

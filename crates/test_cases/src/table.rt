@@ -26,24 +26,42 @@ impl Table {
     ///
     /// A line that may not come there, or lack of memory.
     pub fn take(&mut self, line: &str) -> Result<Option<Case>> {
+        if self.in_text && line == "end case" {
+            return Ok(self.end());
+        }
+        if self.in_text && line == "cut case" {
+            self.cut_last();
+            return Ok(self.end());
+        }
+        self.take_more(line)?;
+        Ok(None)
+    }
+
+    /// Takes a line that ends no case.
+    fn take_more(&mut self, line: &str) -> Result<()> {
         match &mut self.case {
-            None => self.case = Some(Case::begin(self.alloc, line)?),
+            None => {
+                self.case = Some(Case::begin(self.alloc, line)?);
+                Ok(())
+            }
             Some(case) => {
-                if !self.in_text && line != "text" {
-                    case.set(self.alloc, line)?;
-                } else if !self.in_text {
+                if self.in_text {
+                    case.put_line(line)
+                } else if line == "text" {
                     self.in_text = true;
-                } else if line == "end case" {
-                    return Ok(self.end());
-                } else if line == "cut case" {
-                    case.cut_last();
-                    return Ok(self.end());
+                    Ok(())
                 } else {
-                    case.put_line(line)?;
+                    case.set(self.alloc, line)
                 }
             }
         }
-        Ok(None)
+    }
+
+    /// Removes the last byte of the text.
+    fn cut_last(&mut self) {
+        if let Some(case) = &mut self.case {
+            case.cut_last();
+        }
     }
 
     /// Returns the case that was read.

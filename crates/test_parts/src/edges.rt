@@ -21,60 +21,52 @@ fn sink(rt: &impl Abort, alloc: Global, room: usize, chunk: usize, fails: &[u64]
     MemSink::new(alloc, room, chunk.max(1), fails).expect(rt, "a sink")
 }
 
-/// Asserts that the source has these bytes left, and no more than the limit.
-fn gives<S: Source>(rt: &impl Abort, alloc: Global, source: &mut S, limit: u32, want: &[u8]) {
+/// What a reading ends with: bytes, or a fault.
+type ReadBytes = Result<&'static [u8], ReadFault>;
+
+/// Asserts what a reading of the source ends with, of no more bytes than the limit.
+fn assert_read<S: Source>(
+    rt: &impl Abort,
+    alloc: Global,
+    source: &mut S,
+    limit: u32,
+    want: ReadBytes,
+) {
     match read_all(alloc, source, limit as usize) {
-        Ok(bytes) => are_bytes(rt, bytes.as_slice(), want),
-        Err(_) => ensure(rt, false),
+        Ok(bytes) => ensure(rt, want == Ok(bytes.as_slice())),
+        Err(fault) => ensure(rt, want == Err(fault)),
     }
 }
 
-/// Asserts that the source can't be read whole, with this fault.
-fn faults<S: Source>(rt: &impl Abort, alloc: Global, source: &mut S, limit: u32, want: ReadFault) {
-    match read_all(alloc, source, limit as usize) {
-        Ok(_) => ensure(rt, false),
-        Err(fault) => ensure(rt, fault == want),
-    }
-}
-
-/// The number of bytes that a read moves at most, the reads that fail, the limit in bytes, how the reading ends: with the whole text or
-/// with a fault; and which bytes another one then gives, if it is to be tried.
-type Reading = (
-    usize,
-    &'static [u64],
-    u32,
-    Option<ReadFault>,
-    Option<&'static [u8]>,
-);
+/// The number of bytes that a read moves at most, the reads that fail, the limit in bytes, what the reading ends with, and which bytes
+/// another one then gives, if it is to be tried.
+type Reading = (usize, &'static [u64], u32, ReadBytes, Option<&'static [u8]>);
 
 const READINGS: &[Reading] = &[
     // ten bytes, four at a time, take three reads, and a fourth finds the end
-    (4, &[1], 10, Some(ReadFault::Failed), None),
-    (4, &[2], 10, Some(ReadFault::Failed), None),
-    (4, &[3], 10, Some(ReadFault::Failed), None),
-    (4, &[4], 10, Some(ReadFault::Failed), None),
-    (4, &[5], 10, None, None),
+    (4, &[1], 10, Err(ReadFault::Failed), None),
+    (4, &[2], 10, Err(ReadFault::Failed), None),
+    (4, &[3], 10, Err(ReadFault::Failed), None),
+    (4, &[4], 10, Err(ReadFault::Failed), None),
+    (4, &[5], 10, Ok(TEXT), None),
     // however many bytes a read moves
-    (1, &[], 5000, None, Some(b"")),
-    (3, &[], 5000, None, Some(b"")),
-    (10, &[], 5000, None, Some(b"")),
-    (5000, &[], 5000, None, Some(b"")),
+    (1, &[], 5000, Ok(TEXT), Some(b"")),
+    (3, &[], 5000, Ok(TEXT), Some(b"")),
+    (10, &[], 5000, Ok(TEXT), Some(b"")),
+    (5000, &[], 5000, Ok(TEXT), Some(b"")),
     // the text is longer than the limit, or as long
-    (1, &[], 9, Some(ReadFault::TooLong), Some(b"")),
-    (1, &[], 0, Some(ReadFault::TooLong), Some(b"tm 1\nend\n")),
-    (1, &[], 10, None, Some(b"")),
+    (1, &[], 9, Err(ReadFault::TooLong), Some(b"")),
+    (1, &[], 0, Err(ReadFault::TooLong), Some(b"tm 1\nend\n")),
+    (1, &[], 10, Ok(TEXT), Some(b"")),
 ];
 
 /// Asserts that the reading ends as the row tells.
 fn assert_reading(rt: &impl Abort, alloc: Global, row: &Reading) {
-    let (chunk, fails, limit, fault, left) = *row;
+    let (chunk, fails, limit, want, left) = *row;
     let mut source = source(rt, alloc, chunk, fails);
-    match fault {
-        Some(fault) => faults(rt, alloc, &mut source, limit, fault),
-        None => gives(rt, alloc, &mut source, limit, TEXT),
-    }
+    assert_read(rt, alloc, &mut source, limit, want);
     if let Some(left) = left {
-        gives(rt, alloc, &mut source, 10, left);
+        assert_read(rt, alloc, &mut source, 10, Ok(left));
     }
 }
 
@@ -110,10 +102,9 @@ const WRITINGS: &[Writing] = &[
 fn assert_writing(rt: &impl Abort, alloc: Global, row: &Writing) {
     let (room, chunk, fails, times, want) = *row;
     let mut sink = sink(rt, alloc, room, chunk, fails);
-    for _time in 0..times {
-        ensure(rt, write_all(&mut sink, TEXT).is_ok());
+    for time in 0..times.saturating_add(1) {
+        ensure(rt, write_all(&mut sink, TEXT).is_ok() == (time < times));
     }
-    ensure(rt, write_all(&mut sink, TEXT).is_err());
     are_bytes(rt, sink.bytes(), want);
 }
 
@@ -135,36 +126,41 @@ struct Flaky {
 }
 
 impl Flaky {
-    fn call(&mut self) -> std::io::Result<()> {
+    /// Counts a call, and returns whether it fails.
+    fn fails(&mut self) -> bool {
         self.calls = self.calls.saturating_add(1);
-        if self.calls > self.good {
-            return Err(Error::from(ErrorKind::Other));
-        }
-        Ok(())
+        self.calls > self.good
     }
 }
 
 impl Read for Flaky {
     fn read(&mut self, buffer: &mut [u8]) -> std::io::Result<usize> {
-        self.call()?;
-        match buffer.first_mut() {
-            Some(byte) => {
+        if self.fails() {
+            return Err(Error::from(ErrorKind::Other));
+        }
+        match buffer {
+            [byte, ..] => {
                 *byte = b'x';
                 Ok(1)
             }
-            None => Ok(0),
+            [] => Ok(0),
         }
     }
 }
 
 impl Write for Flaky {
     fn write(&mut self, piece: &[u8]) -> std::io::Result<usize> {
-        self.call()?;
+        if self.fails() {
+            return Err(Error::from(ErrorKind::Other));
+        }
         Ok(if self.full { 0 } else { piece.len() })
     }
 
     fn flush(&mut self) -> std::io::Result<()> {
-        self.call()
+        if self.fails() {
+            return Err(Error::from(ErrorKind::Other));
+        }
+        Ok(())
     }
 }
 
@@ -175,9 +171,9 @@ fn faults_of_a_reader(rt: HostRuntime) {
         good: 3,
         full: false,
     });
-    faults(&rt, rt.alloc(), &mut input, 9, ReadFault::Failed);
+    assert_read(&rt, rt.alloc(), &mut input, 9, Err(ReadFault::Failed));
     let mut text = StdSource::new(TEXT);
-    gives(&rt, rt.alloc(), &mut text, 10, TEXT);
+    assert_read(&rt, rt.alloc(), &mut text, 10, Ok(TEXT));
 }
 
 /// The number of calls that go well, whether nothing is taken, and what comes of a write. Each piece is written and flushed: two calls.

@@ -55,13 +55,6 @@ const JOBS: &[(JobId, bool)] = &[
     (JobId { ctx: 1, num: 1 }, false),
 ];
 
-/// Emits the jobs in their order.
-fn emit_all(rt: &impl Abort, line: &mut Timeline) {
-    for (job, _done) in JOBS {
-        is_job(rt, emitted(line, job.ctx), Some(*job));
-    }
-}
-
 /// Asserts which of the jobs are done.
 fn assert_done(rt: &impl Abort, line: &Timeline) {
     for (job, done) in JOBS {
@@ -72,15 +65,12 @@ fn assert_done(rt: &impl Abort, line: &Timeline) {
 /// Makes a timeline with the jobs 1 and 2 of context 0, of which the first is done, and job 1 of context 1.
 fn two_contexts(rt: &impl Abort, alloc: Global) -> Timeline {
     let mut line = Timeline::new(alloc, 2).expect(rt, "contexts");
-    emit_all(rt, &mut line);
+    for (job, _done) in JOBS {
+        is_job(rt, emitted(&mut line, job.ctx), Some(*job));
+    }
     ensure(rt, finished(&mut line, 0));
+    assert_done(rt, &line);
     line
-}
-
-#[test]
-fn jobs_are_done_in_order(rt: HostRuntime) {
-    let line = two_contexts(&rt, rt.alloc());
-    assert_done(&rt, &line);
 }
 
 const WRITE: JobId = JobId { ctx: 0, num: 2 };
@@ -101,11 +91,13 @@ const READ_BEHIND_WRITE: &[(Usage, Option<JobId>)] = &[(Usage::Read, Some(WRITE)
 
 const READ_BEHIND_KERNEL: &[(Usage, Option<JobId>)] = &[(Usage::Read, Some(KERNEL))];
 
-/// Makes a set of a write, and a use by the kernel.
-fn two_fences(rt: &impl Abort, alloc: Global) -> FenceSet {
+/// Makes a set of a write, and a use by the kernel. Asserts that it has no job to wait for before.
+fn two_fences(rt: &impl Abort, alloc: Global, line: &Timeline) -> FenceSet {
     let mut set = FenceSet::new(alloc, 2).expect(rt, "contexts");
+    assert_need(rt, &set, line, NONE);
     add(&mut set, WRITE, Usage::Write);
     add(&mut set, KERNEL, Usage::Kernel);
+    assert_need(rt, &set, line, WRITTEN);
     set
 }
 
@@ -122,10 +114,7 @@ fn copied(rt: &impl Abort, alloc: Global, set: &FenceSet) -> FenceSet {
 fn usages_and_what_they_wait_for(rt: HostRuntime) {
     let rt = &rt;
     let mut line = two_contexts(rt, rt.alloc());
-    let empty = FenceSet::new(rt.alloc(), 2).expect(rt, "contexts");
-    assert_need(rt, &empty, &line, NONE);
-    let mut set = two_fences(rt, rt.alloc());
-    assert_need(rt, &set, &line, WRITTEN);
+    let mut set = two_fences(rt, rt.alloc(), &line);
     let other = copied(rt, rt.alloc(), &set);
     assert_need(rt, &other, &line, READ_BEHIND_KERNEL);
     finished(&mut line, 1);

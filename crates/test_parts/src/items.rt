@@ -52,22 +52,17 @@ const ROWS: &[Row] = &[
     (&[9, 10], 0, 1, &[9]),
 ];
 
-/// Adds the items of `come` to the queue, and then drops the first `leave` items.
-fn turn_over(rt: &impl Abort, queue: &mut ItemQueue<u32>, come: &[u32], leave: u32) {
+/// Asserts that, once items come and leave and the queue is cut back, it has these items left.
+fn assert_row(rt: &impl Abort, queue: &mut ItemQueue<u32>, row: &Row) {
+    let (come, leave, kept, left) = *row;
     for item in come {
         queue.push(*item).expect(rt, "an item");
     }
-    for _i in 0..leave {
+    for _time in 0..leave {
         if queue.len() > 0 {
             queue.drop_first();
         }
     }
-}
-
-/// Asserts that, once items come and leave and the queue is cut back, it has these items left.
-fn assert_row(rt: &impl Abort, queue: &mut ItemQueue<u32>, row: &Row) {
-    let (come, leave, kept, left) = *row;
-    turn_over(rt, queue, come, leave);
     queue.truncate(kept);
     ensure(rt, queue.items() == left);
 }

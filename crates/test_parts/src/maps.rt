@@ -1,4 +1,4 @@
 //! Tests of mappings of buffers by the CPU.
 
 mod entries;
-mod scripts;
+pub mod scripts;

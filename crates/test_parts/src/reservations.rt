@@ -5,15 +5,10 @@ use resv_object::Resv;
 use std::process::Abort;
 use ttm_base::{JobId, Stamp, Usage};
 
-/// Asserts that the ticket `holder` holds the reservation, or none does.
-fn is_held(rt: &impl Abort, resv: &Resv, holder: Option<Stamp>) {
-    ensure(rt, resv.holder() == holder);
-}
-
 /// Tries to take the reservation for `stamp`. Asserts that it is taken or not, and that the third ticket holds it.
 fn try_take(rt: &impl Abort, resv: &mut Resv, stamp: Stamp, taken: bool) {
     ensure(rt, resv.try_take(stamp) == taken);
-    is_held(rt, resv, Some(Stamp(3)));
+    ensure(rt, resv.holder() == Some(Stamp(3)));
 }
 
 #[test]
@@ -25,11 +20,10 @@ fn one_ticket_holds_it(rt: HostRuntime) {
     try_take(rt, &mut resv, Stamp(3), false);
     ensure(rt, resv.holder().is_some());
     resv.release();
-    is_held(rt, &resv, None);
+    ensure(rt, resv.holder().is_none());
     ensure(rt, resv.try_take(Stamp(2)));
     resv.clear();
-    is_held(rt, &resv, None);
-    drop(resv);
+    ensure(rt, resv.holder().is_none());
 }
 
 const JOB: JobId = JobId { ctx: 0, num: 1 };
@@ -61,5 +55,4 @@ fn jobs_are_waited_for_by_usage(rt: HostRuntime) {
     ensure(rt, resv.fences().contexts() == 1);
     resv.add_fence(JOB, Usage::Write);
     assert_waits(rt, &mut resv, &line);
-    drop(resv);
 }

@@ -1,4 +1,4 @@
-use crate::making::{core_of, ghost_in_vram, list, one, script_of};
+use crate::making::{core_of, ensure, ghost_in_vram, list, one, script_of};
 use journal_model::{Buffers, Core, Jobs, Script};
 use rules_choice::choice;
 use std::alloc::Global;
@@ -39,30 +39,22 @@ const CONTIG: Place = Place {
     ..ANYWHERE
 };
 
-/// Returns whether the place has the pages for a case that are wanted: none where it has no choice.
-fn has_choice(alloc: Global, script: &Script, core: &Core, case: &Case) -> bool {
+/// Asserts that the place has the pages for a case that are wanted: none where it has no choice.
+fn assert_choice(rt: &impl Abort, alloc: Global, script: &Script, core: &Core, case: &Case) {
     match choice(alloc, script, core, case.buffer, case.place) {
-        Ok(Some(pages)) => pages.items() == case.want,
-        Ok(None) => case.want.is_empty(),
-        Err(NoMemory) => false,
+        Ok(Some(pages)) => ensure(rt, pages.items() == case.want),
+        Ok(None) => ensure(rt, case.want.is_empty()),
+        Err(NoMemory) => ensure(rt, false),
     }
 }
 
-/// Counts the cases of a script up to the first whose answer isn't the one that is wanted.
-fn answered(rt: &impl Abort, alloc: Global, script: &str, cases: &[Case]) -> usize {
+/// Asserts that each case of a script has the answer that is wanted.
+fn assert_choices(rt: &impl Abort, alloc: Global, script: &str, cases: &[Case]) {
     let script = script_of(rt, alloc, script);
-    let mut count = 0usize;
     for case in cases {
         let core = core_with(rt, alloc, case.held);
-        let is_wanted = has_choice(alloc, &script, &core, case);
-        drop(core);
-        if !is_wanted {
-            break;
-        }
-        count = count.saturating_add(1);
+        assert_choice(rt, alloc, &script, &core, case);
     }
-    drop(script);
-    count
 }
 
 /// A range manager of 16 pages, and buffers by pages and alignment.
@@ -132,11 +124,6 @@ const RANGES: &[Case] = &[
     },
 ];
 
-#[test]
-fn range_manager_answers(rt: HostRuntime) {
-    assert!(rt; answered(&rt, rt.alloc(), RANGE_SCRIPT, RANGES) == RANGES.len());
-}
-
 /// A buddy manager of 12 pages, and buffers by pages.
 const BLOCK_SCRIPT: &str = "ttm 1
 vram buddy 12
@@ -189,6 +176,8 @@ const BLOCKS: &[Case] = &[
 ];
 
 #[test]
-fn buddy_manager_answers(rt: HostRuntime) {
-    assert!(rt; answered(&rt, rt.alloc(), BLOCK_SCRIPT, BLOCKS) == BLOCKS.len());
+fn managers_answer(rt: HostRuntime) {
+    let rt = &rt;
+    assert_choices(rt, rt.alloc(), RANGE_SCRIPT, RANGES);
+    assert_choices(rt, rt.alloc(), BLOCK_SCRIPT, BLOCKS);
 }

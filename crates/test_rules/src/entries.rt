@@ -1,8 +1,9 @@
-use crate::making::script_of;
+use crate::making::{ensure, script_of};
 use entry_reader::read_report;
-use journal_model::{Entry, FenceRun, Script, State};
+use journal_model::{Core, Entry, FenceRun, Script, State};
 use rules_apply::{apply, first_state, is_ready};
 use std::alloc::Global;
+use std::process::Abort;
 use ttm_base::Mem;
 
 /// Two buffers of two pages, mates of priority 1, and a thread that fills the first over a page border, by a job.
@@ -57,61 +58,63 @@ journal 25
 25 t1 refused NoBuffer
 ";
 
-/// Returns whether each entry is ready where it comes, and is made.
-fn are_made(alloc: Global, script: &Script, state: &mut State, entries: &[Entry]) -> bool {
+/// Asserts that each entry is ready where it comes, and makes it.
+fn make_all(rt: &impl Abort, alloc: Global, script: &Script, state: &mut State, entries: &[Entry]) {
     for entry in entries {
-        if !is_ready(script, state, entry) || apply(state, alloc, script, entry).is_err() {
-            return false;
-        }
+        ensure(rt, is_ready(script, state, entry));
+        apply(state, alloc, script, entry).expect(rt, "memory");
     }
-    true
 }
 
-/// Counts the fences that stand in these runs.
-fn count_of(runs: &[FenceRun]) -> u64 {
+/// Asserts that two fences stand in these runs.
+fn are_two(rt: &impl Abort, runs: &[FenceRun]) {
     let mut count: u64 = 0;
     for run in runs {
         count = count.saturating_add(run.jobs.count);
     }
-    count
+    ensure(rt, count == 2);
 }
 
-/// Returns whether the first buffer stands in VRAM and has two fences, the first ghost holds the frames 2 and 0, and the first job has two
+const FRAMES: &[u32] = &[2, 0];
+
+/// Asserts that the first buffer stands in VRAM and has two fences, the first ghost holds the frames 2 and 0, and the first job has two
 /// packets: it fills up to a page border, and from there on.
-fn has_moved(state: &State) -> bool {
-    let core = &state.core;
-    match (core.buffers.items(), core.ghosts.items(), core.jobs.items()) {
-        ([Some(buffer), ..], [left, ..], [job, ..]) => {
-            buffer.mem == Mem::Vram
-                && count_of(buffer.fences.runs()) == 2
-                && left.frames.items() == [2, 0].as_slice()
-                && job.packets.len() == 2
+fn assert_moved(rt: &impl Abort, core: &Core) {
+    match (
+        core.buffers.items().first(),
+        core.ghosts.items().first(),
+        core.jobs.items().first(),
+    ) {
+        (Some(Some(buffer)), Some(left), Some(job)) => {
+            ensure(rt, buffer.mem == Mem::Vram && job.packets.len() == 2);
+            are_two(rt, buffer.fences.runs());
+            ensure(rt, left.frames.items() == FRAMES);
         }
-        _ => false,
+        _ => ensure(rt, false),
     }
 }
 
-/// Returns whether there is no ghost and the thread has answered `count` commands.
-fn is_over(state: &State, count: u32) -> bool {
+/// Asserts that there is no ghost and the thread has answered two commands.
+fn assert_over(rt: &impl Abort, state: &State) {
+    ensure(rt, state.core.ghosts.len() == 0);
     match state.courses.items().first() {
-        Some(course) => course.answered == count && state.core.ghosts.len() == 0,
-        None => false,
+        Some(course) => ensure(rt, course.answered == 2),
+        None => ensure(rt, false),
     }
 }
 
 #[test]
 fn buffer_moves_and_leaves_a_ghost(rt: HostRuntime) {
+    let rt = &rt;
     let alloc = rt.alloc();
-    let script = script_of(&rt, alloc, SCRIPT);
-    let parsed = read_report(alloc, &script, JOURNAL.as_bytes()).expect(&rt, "memory");
-    let mut state = first_state(alloc, &script).expect(&rt, "a state");
+    let script = script_of(rt, alloc, SCRIPT);
+    let parsed = read_report(alloc, &script, JOURNAL.as_bytes()).expect(rt, "memory");
+    let mut state = first_state(alloc, &script).expect(rt, "a state");
     let entries = parsed.entries.items();
-    let (first, rest) = entries.split_at(MOVED.min(entries.len()));
-    let is_moved = are_made(alloc, &script, &mut state, first) && has_moved(&state);
-    let is_ended = are_made(alloc, &script, &mut state, rest) && is_over(&state, 2);
-    let is_read = entries.len() == ALL;
-    drop(state);
-    drop(parsed);
-    drop(script);
-    assert!(rt; is_read && is_moved && is_ended);
+    ensure(rt, entries.len() == ALL);
+    let (first, rest) = entries.split_at(MOVED);
+    make_all(rt, alloc, &script, &mut state, first);
+    assert_moved(rt, &state.core);
+    make_all(rt, alloc, &script, &mut state, rest);
+    assert_over(rt, &state);
 }

@@ -12,6 +12,15 @@ use std::alloc::Global;
 use std::process::Abort;
 use ttm_base::{Fence, ItemList, JobId, Loc, Mem, Packet, Spans};
 
+/// Asserts that the condition holds.
+pub fn ensure(rt: &impl Abort, holds: bool)
+    ensures { holds ≡ true }
+{
+    if !holds {
+        rt.panic("a condition doesn't hold")
+    }
+}
+
 /// Makes a list of one item.
 pub fn one<T: Drop>(rt: &impl Abort, alloc: Global, item: T) -> ItemList<T> {
     let mut items = ItemList::new(alloc);

@@ -1,4 +1,4 @@
-use crate::making::{buffer_of, core_of, job_of, list, one, script_of, state_of};
+use crate::making::{buffer_of, core_of, ensure, job_of, list, one, script_of, state_of};
 use journal_model::{Buffer, Command, Core, Course, Ghost, JobIds, Jobs, Script, State};
 use rules_holds::{free_frame, free_slot, held_spans, jobs_before_use, packets_of};
 use rules_state::{
@@ -30,12 +30,15 @@ fn read_buffer(rt: &impl Abort, alloc: Global) -> Buffer {
     buffer_of(rt, alloc, PLACES, &[READ])
 }
 
+/// Two pages.
+const HELD: &[Span] = &[Span { start: 2, end: 4 }];
+
 /// Makes a ghost that holds two pages of TT and a frame.
 fn ghost_of(rt: &impl Abort, alloc: Global) -> Ghost {
     Ghost {
         num: 1,
         vram: Spans::new(alloc),
-        tt: list(rt, alloc, &[Span { start: 2, end: 4 }]),
+        tt: list(rt, alloc, HELD),
         frames: list(rt, alloc, &[2]),
         jobs: JobIds::new(alloc),
     }
@@ -65,46 +68,35 @@ fn listed_state(rt: &impl Abort, alloc: Global) -> State {
     state
 }
 
-/// Returns whether the list is this one.
-fn are<T: Copy + PartialEq>(items: Result<ItemList<T>, NoMemory>, want: &[T]) -> bool {
-    match items {
-        Ok(items) => items.items() == want,
-        Err(NoMemory) => false,
-    }
+/// Asserts that the list is this one.
+fn are<T: Copy + PartialEq>(rt: &impl Abort, items: Result<ItemList<T>, NoMemory>, want: &[T]) {
+    ensure(rt, items.expect(rt, "memory").items() == want);
 }
 
-/// Returns whether the jobs are the one of engine 1.
-fn is_job(jobs: Result<JobIds, NoMemory>) -> bool {
-    let Ok(jobs) = jobs else {
-        return false;
-    };
-    match jobs.runs() {
-        [run] => run.ctx == JOB.ctx && run.first == JOB.num && run.count == 1,
-        _ => false,
+/// Asserts that the jobs are the one of engine 1.
+fn is_job(rt: &impl Abort, jobs: &JobIds) {
+    match jobs.runs().first() {
+        Some(run) => ensure(rt, (run.ctx, run.first, run.count) == (JOB.ctx, JOB.num, 1)),
+        None => ensure(rt, false),
     }
+    ensure(rt, jobs.runs().len() == 1);
 }
 
-/// Returns whether there is one place.
-fn is_one_place(alloc: Global, script: &Script) -> bool {
-    match asked_places(alloc, script, &Command::SwapOut { b: A }, A) {
-        Ok(places) => places.len() == 1,
-        Err(NoMemory) => false,
-    }
-}
+/// Two buffers, of which the first stands twice.
+const NAMED: &[BufId] = &[A, B, A];
 
 #[test]
 fn buffers_pages_and_places_of_commands(rt: HostRuntime) {
+    let rt = &rt;
     let alloc = rt.alloc();
-    let are_named = are(without_buffer(alloc, &[A, B, A], A), &[B])
-        && are(first_mentions(alloc, &[B, A, B]), &[B, A])
-        && are(named(alloc, &Command::Pin { b: B }), &[B]);
-    let buffer = read_buffer(&rt, alloc);
-    let are_held = are(frames_of(alloc, &buffer), &[0]);
-    drop(buffer);
-    let script = script_of(&rt, alloc, SCRIPT);
-    let is_asked = is_one_place(alloc, &script);
-    drop(script);
-    assert!(rt; are_named && are_held && is_asked);
+    are(rt, without_buffer(alloc, NAMED, A), &[B]);
+    are(rt, first_mentions(alloc, &[B, A, B]), &[B, A]);
+    are(rt, named(alloc, &Command::Pin { b: B }), &[B]);
+    let buffer = read_buffer(rt, alloc);
+    are(rt, frames_of(alloc, &buffer), &[0]);
+    let script = script_of(rt, alloc, SCRIPT);
+    let places = asked_places(alloc, &script, &Command::SwapOut { b: A }, A).expect(rt, "memory");
+    ensure(rt, places.len() == 1);
 }
 
 /// The packets of a probe of some bytes, which end at a page.
@@ -134,51 +126,45 @@ const FILL: Op = Op::Fill {
     byte: 7,
 };
 
-/// Returns whether the second frame is the lowest that is free, and no slot is.
-fn is_free(alloc: Global, script: &Script, core: &Core) -> bool {
-    matches!(free_frame(alloc, script, core), Ok(Some(1)))
-        && matches!(free_slot(alloc, script, core), Ok(None))
+/// Asserts that the second frame is the lowest that is free, and no slot is.
+fn assert_free(rt: &impl Abort, alloc: Global, script: &Script, core: &Core) {
+    ensure(rt, free_frame(alloc, script, core) == Ok(Some(1)));
+    ensure(rt, free_slot(alloc, script, core) == Ok(None));
 }
 
 /// Packets end at pages, and a job is waited for.
 #[test]
 fn what_is_held_and_free_and_waited_for(rt: HostRuntime) {
+    let rt = &rt;
     let alloc = rt.alloc();
-    let core = read_core(&rt, alloc);
-    let script = script_of(&rt, alloc, SCRIPT);
-    let is_held = are(
-        held_spans(alloc, Mem::Tt, &core),
-        &[Span { start: 2, end: 4 }],
-    ) && is_free(alloc, &script, &core);
-    let is_waited_for = are(packets_of(alloc, &core, &[PROBE]), PIECES)
-        && is_job(jobs_before_use(alloc, &core, &[FILL], A));
-    drop(script);
-    drop(core);
-    assert!(rt; is_held && is_waited_for);
+    let core = read_core(rt, alloc);
+    let script = script_of(rt, alloc, SCRIPT);
+    are(rt, held_spans(alloc, Mem::Tt, &core), HELD);
+    assert_free(rt, alloc, &script, &core);
+    are(rt, packets_of(alloc, &core, &[PROBE]), PIECES);
+    let jobs = jobs_before_use(alloc, &core, &[FILL], A).expect(rt, "memory");
+    is_job(rt, &jobs);
 }
 
-/// Returns whether the search at work of a move to VRAM has one place, and no pressure.
-fn has_one_place(alloc: Global, script: &Script, state: &State, course: &Course) -> bool {
+/// Asserts that the search at work of a move to VRAM has one place, and no pressure.
+fn has_one_place(rt: &impl Abort, alloc: Global, script: &Script, state: &State, course: &Course) {
     let moved = Command::Move {
         b: A,
         mem: Mem::Vram,
     };
     match place_search_at_work(alloc, script, state, course, &moved, A) {
-        Ok(place_search) => place_search.list.len() == 1 && !place_search.forced,
-        Err(NoMemory) => false,
+        Ok(search) => ensure(rt, search.list.len() == 1 && !search.forced),
+        Err(NoMemory) => ensure(rt, false),
     }
 }
 
 #[test]
 fn eviction_order_and_search_of_a_state(rt: HostRuntime) {
+    let rt = &rt;
     let alloc = rt.alloc();
-    let state = listed_state(&rt, alloc);
-    let script = script_of(&rt, alloc, SCRIPT);
+    let state = listed_state(rt, alloc);
+    let script = script_of(rt, alloc, SCRIPT);
     let course = new_course(alloc, 0);
-    let is_in_order = are(in_order(alloc, &state, Mem::System), &[A]);
-    let is_searched = has_one_place(alloc, &script, &state, &course);
-    drop(state);
-    drop(script);
-    drop(course);
-    assert!(rt; is_in_order && is_searched);
+    are(rt, in_order(alloc, &state, Mem::System), &[A]);
+    has_one_place(rt, alloc, &script, &state, &course);
 }

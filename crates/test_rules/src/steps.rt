@@ -1,4 +1,4 @@
-use crate::making::{core_of, ids_of, job_of, list, one, script_of, state_of};
+use crate::making::{core_of, ensure, ids_of, job_of, list, one, script_of, state_of};
 use journal_model::{BufIds, Core, Course, Frames, Ghost, Jobs, Kind, Script, State};
 use rules_next::next;
 use rules_search::has_room;
@@ -102,14 +102,16 @@ enum Seen {
 
 /// Returns whether the entry is the one of a row.
 fn is_seen(kind: &Kind, want: Seen) -> bool {
-    match (kind, want) {
-        (Kind::Ticket { s }, Seen::Ticket(stamp)) => *s == stamp,
-        (Kind::Reserve { b }, Seen::Reserve(buffer)) => *b == buffer,
-        (Kind::Take { b, mem, spans }, Seen::Take(buffer, place, span)) => {
-            *b == buffer && *mem == place && spans.items() == [span].as_slice()
+    match kind {
+        Kind::Ticket { s } => matches!(want, Seen::Ticket(stamp) if *s == stamp),
+        Kind::Reserve { b } => matches!(want, Seen::Reserve(buffer) if *b == buffer),
+        Kind::Take { b, mem, spans } => {
+            let first = spans.items().first().copied();
+            spans.len() == 1
+                && matches!(want, Seen::Take(buffer, place, span) if (*b, *mem, first) == (buffer, place, Some(span)))
         }
-        (Kind::Packet { num, k, piece }, Seen::Packet(job, at)) => {
-            *num == job && *k == at && piece.len() == 0
+        Kind::Packet { num, k, piece } => {
+            piece.len() == 0 && matches!(want, Seen::Packet(job, at) if *num == job && *k == at)
         }
         _ => false,
     }
@@ -130,9 +132,9 @@ fn comes(alloc: Global, script: &Script, state: &State, who: Actor, want: Seen) 
     }
     match next(alloc, script, state, who) {
         Ok(Ok(kind)) => {
-            let seen = is_seen(&kind, want);
+            let is_it = is_seen(&kind, want);
             drop(kind);
-            seen
+            is_it
         }
         Ok(Err(need)) => is_awaited(need, want),
         Err(NoMemory) => false,
@@ -156,13 +158,12 @@ const STEPS: &[(Option<Stamp>, &[BufId], Actor, Seen)] = &[
 
 #[test]
 fn steps_of_threads_engines_and_reaper(rt: HostRuntime) {
+    let rt = &rt;
     let alloc = rt.alloc();
-    let script = script_of(&rt, alloc, SCRIPT);
+    let script = script_of(rt, alloc, SCRIPT);
     for (stamp, held, who, want) in STEPS {
-        let course = course_with(alloc, *stamp, list(&rt, alloc, held));
-        let state = state_with(&rt, alloc, course);
-        assert!(rt; comes(alloc, &script, &state, *who, *want));
-        drop(state);
+        let course = course_with(alloc, *stamp, list(rt, alloc, held));
+        let state = state_with(rt, alloc, course);
+        ensure(rt, comes(alloc, &script, &state, *who, *want));
     }
-    drop(script);
 }

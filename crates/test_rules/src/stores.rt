@@ -1,4 +1,4 @@
-use crate::making::{buffer_of, core_of, job_of, one, script_of, state_of};
+use crate::making::{buffer_of, core_of, ensure, job_of, one, script_of, state_of};
 use journal_model::{Bytes, Core, Entry, Ghosts, Jobs, Kind, Script, State};
 use rules_stores::{PlainStores, can_store};
 use std::alloc::Global;
@@ -39,15 +39,11 @@ fn filled_core(rt: &impl Abort, alloc: Global) -> Core {
     core_of(buffers, jobs, Ghosts::new(alloc))
 }
 
-/// Makes an entry of the engine that holds no list, and returns whether it could.
-fn make(script: &Script, state: &State, stores: &mut PlainStores, kind: Kind) -> bool {
-    let can = can_store(script, state, ENGINE, &kind);
+/// Asserts that an entry of the engine can be made, and makes it.
+fn make(rt: &impl Abort, script: &Script, state: &State, stores: &mut PlainStores, kind: Kind) {
+    ensure(rt, can_store(script, state, ENGINE, &kind));
     let entry = Entry { who: ENGINE, kind };
-    if can {
-        stores.after(script, state, &entry);
-    }
-    drop(entry);
-    can
+    stores.after(script, state, &entry);
 }
 
 /// Returns a packet of the job, which has shown nothing yet.
@@ -59,51 +55,46 @@ fn packet(alloc: Global, k: u32) -> Kind {
     }
 }
 
-/// Fills the page, swaps it out to the slot and back into the other frame. Returns whether it could.
-fn swap_the_page(alloc: Global, script: &Script, state: &State, stores: &mut PlainStores) -> bool {
-    make(script, state, stores, packet(alloc, 0))
-        && make(
-            script,
-            state,
-            stores,
-            Kind::SwapOut {
-                b: B,
-                page: 0,
-                slot: 0,
-            },
-        )
-        && make(
-            script,
-            state,
-            stores,
-            Kind::SwapIn {
-                b: B,
-                page: 0,
-                slot: 0,
-                frame: 1,
-            },
-        )
+/// Fills the page, swaps it out to the slot and back into the other frame.
+fn swap_the_page(
+    rt: &impl Abort,
+    alloc: Global,
+    script: &Script,
+    state: &State,
+    stores: &mut PlainStores,
+) {
+    make(rt, script, state, stores, packet(alloc, 0));
+    let out = Kind::SwapOut {
+        b: B,
+        page: 0,
+        slot: 0,
+    };
+    make(rt, script, state, stores, out);
+    let back = Kind::SwapIn {
+        b: B,
+        page: 0,
+        slot: 0,
+        frame: 1,
+    };
+    make(rt, script, state, stores, back);
 }
 
-/// Returns whether the packet shows these bytes.
-fn has_shown(shown: Result<Kind, NoMemory>, want: &[u8]) -> bool {
+/// Asserts that the packet shows these bytes.
+fn has_shown(rt: &impl Abort, shown: &Result<Kind, NoMemory>, want: &[u8]) {
     match shown {
-        Ok(Kind::Packet { piece, .. }) => piece.items() == want,
-        _ => false,
+        Ok(Kind::Packet { piece, .. }) => ensure(rt, piece.items() == want),
+        _ => ensure(rt, false),
     }
 }
 
 #[test]
 fn filled_page_goes_through_swap(rt: HostRuntime) {
+    let rt = &rt;
     let alloc = rt.alloc();
-    let script = script_of(&rt, alloc, SCRIPT);
-    let state = state_of(alloc, filled_core(&rt, alloc));
-    let mut stores = PlainStores::new(alloc, script.sizes).expect(&rt, "stores");
-    let is_swapped = swap_the_page(alloc, &script, &state, &mut stores);
+    let script = script_of(rt, alloc, SCRIPT);
+    let state = state_of(alloc, filled_core(rt, alloc));
+    let mut stores = PlainStores::new(alloc, script.sizes).expect(rt, "stores");
+    swap_the_page(rt, alloc, &script, &state, &mut stores);
     let shown = stores.showing(alloc, &script, &state, ENGINE, packet(alloc, 1));
-    let is_shown = has_shown(shown, &[0, 0, 7, 7]);
-    drop(stores);
-    drop(state);
-    drop(script);
-    assert!(rt; is_swapped && is_shown);
+    has_shown(rt, &shown, &[0, 0, 7, 7]);
 }

@@ -1,4 +1,4 @@
-use crate::making::{core_of, job_of, script_of, state_of};
+use crate::making::{core_of, ensure, job_of, script_of, state_of};
 use journal_model::{Buffers, Courses, Ghosts, Jobs, Script, State};
 use rules_next::rules_schedule::{is_over, next_actor};
 use rules_search::has_room;
@@ -50,45 +50,40 @@ const ORDER: &[Actor] = &[
     Actor::Thread(1),
 ];
 
-/// Returns whether the order of the actors is this one.
-fn has_order(script: &Script, state: &State, want: &[Actor]) -> bool {
-    if !has_room(script, state) {
-        return false;
-    }
+/// Asserts that the order of the actors is this one.
+fn assert_order(rt: &impl Abort, script: &Script, state: &State, want: &[Actor]) {
+    ensure(rt, has_room(script, state));
     let mut order = TurnOrder::new();
     for who in want {
-        let Some(next) = order.next(script, &state.courses) else {
-            return false;
-        };
-        if next != *who {
-            return false;
-        }
+        ensure(rt, order.next(script, &state.courses) == Some(*who));
     }
-    order.next(script, &state.courses).is_none()
+    ensure(rt, order.next(script, &state.courses).is_none());
 }
 
-/// Returns whether the actor is the first that has an entry.
-fn goes_next(alloc: Global, script: &Script, state: &State, who: Actor) -> bool {
-    if !has_room(script, state) {
-        return false;
-    }
-    match next_actor(alloc, script, state) {
-        Ok(Some(next)) => next == who,
-        _ => false,
-    }
+/// Asserts that the actor is the first that has an entry.
+fn goes_next(rt: &impl Abort, alloc: Global, script: &Script, state: &State, who: Actor) {
+    ensure(rt, has_room(script, state));
+    ensure(
+        rt,
+        next_actor(alloc, script, state).expect(rt, "memory") == Some(who),
+    );
+}
+
+/// Asserts that nothing is left to do, or that something is.
+fn assert_over(rt: &impl Abort, script: &Script, state: &State, want: bool) {
+    ensure(rt, has_room(script, state));
+    ensure(rt, is_over(script, state) == want);
 }
 
 #[test]
 fn engines_go_before_threads_and_elders_before_others(rt: HostRuntime) {
+    let rt = &rt;
     let alloc = rt.alloc();
-    let script = script_of(&rt, alloc, SCRIPT);
-    let mut state = state_with_tickets(&rt, alloc);
-    let is_ordered = has_order(&script, &state, ORDER)
-        && goes_next(alloc, &script, &state, Actor::Engine(1))
-        && !is_over(&script, &state);
+    let script = script_of(rt, alloc, SCRIPT);
+    let mut state = state_with_tickets(rt, alloc);
+    assert_order(rt, &script, &state, ORDER);
+    goes_next(rt, alloc, &script, &state, Actor::Engine(1));
+    assert_over(rt, &script, &state, false);
     state.core.jobs.finish(JOB);
-    let is_ended = is_over(&script, &state);
-    drop(state);
-    drop(script);
-    assert!(rt; is_ordered && is_ended);
+    assert_over(rt, &script, &state, true);
 }

@@ -13,74 +13,149 @@ pub fn assert_bytes(rt: &impl Abort, store: &ByteStore, at: u64, want: &[u8])
     are_bytes(rt, store.part(at, want.len() as u64), want);
 }
 
-#[test]
-fn bytes_on_two_pages(rt: HostRuntime) {
-    let rt = &rt;
-    let mut store = ByteStore::new(rt.alloc(), 2).expect(rt, "pages");
-    assert_bytes(rt, &store, 4094, &[0, 0, 0, 0]);
-    store.fill(4093, 5, 7);
-    store.put(4095, 9);
-    assert_bytes(rt, &store, 4092, &[0, 7, 7, 9, 7, 7, 0]);
-    store.copy_page_part(4094, &[1, 2, 3]);
-    assert_bytes(rt, &store, 4092, &[0, 7, 1, 2, 3, 7, 0]);
-    ensure(rt, store.get(4096) == 3);
-    store.zero_page(1);
-    assert_bytes(rt, &store, 4092, &[0, 7, 1, 2, 0, 0, 0]);
-    store.zero_page(0);
-    assert_bytes(rt, &store, 4092, &[0; 7]);
-}
-
-/// Parts that overlap are read before they are written.
-#[test]
-fn copies_and_exclusive_or_within(rt: HostRuntime) {
-    let rt = &rt;
-    let mut store = ByteStore::new(rt.alloc(), 1).expect(rt, "a page");
-    store.copy_page_part(0, &[1, 2, 3, 4, 5, 6]);
-    store.copy_within(2, 0, 4);
-    assert_bytes(rt, &store, 0, &[1, 2, 1, 2, 3, 4, 0]);
-    store.copy_within(0, 1, 5);
-    assert_bytes(rt, &store, 0, &[2, 1, 2, 3, 4, 4, 0]);
-    store.xor_page_part(0, &[0xff, 1]);
-    assert_bytes(rt, &store, 0, &[0xfd, 0, 2, 3, 4, 4, 0]);
-    store.xor_within(2, 1, 4);
-    assert_bytes(rt, &store, 0, &[0xfd, 0, 2, 1, 7, 0, 0]);
-}
-
-/// Makes a store of forty pages of zeros.
-fn forty_pages(rt: &impl Abort, alloc: Global) -> ByteStore
-    ensures { length result ≡ 4096 * 40 }
+/// Asserts that `len` bytes from `at` on are at most a page, and within `pages` pages.
+pub fn assert_within(rt: &impl Abort, at: u64, len: u64, pages: u32)
+    ensures page { len ≤ 4096 }
+    ensures within { at + len ≤ 4096 * pages }
 {
-    ByteStore::new(alloc, 40).expect(rt, "pages")
+    let size = 4096 * pages as u64;
+    ensure(rt, len <= 4096 && len <= size && at <= size - len);
 }
+
+/// What is done to a store, as its calls are named, or bytes that it is to have from a place on.
+#[derive(Clone, Copy)]
+enum Step {
+    Fill(u64, u64, u8),
+    Put(u64, u8),
+    CopyPagePart(u64, &'static [u8]),
+    CopyWithin(u64, u64, u64),
+    XorPagePart(u64, &'static [u8]),
+    XorWithin(u64, u64, u64),
+    ZeroPage(u32),
+    Get(u64, u8),
+    Has(u64, &'static [u8]),
+}
+
+/// Takes a step in a store of `pages` pages.
+fn take(rt: &impl Abort, store: &mut ByteStore, pages: u32, step: Step)
+    requires { length store.old ≡ 4096 * pages }
+    ensures { length store.new ≡ 4096 * pages }
+{
+    match step {
+        Step::Fill(at, len, byte) => {
+            assert_within(rt, at, len, pages);
+            store.fill(at, len, byte);
+        }
+        Step::Put(at, byte) => {
+            assert_within(rt, at, 1, pages);
+            store.put(at, byte);
+        }
+        Step::CopyPagePart(at, bytes) => {
+            assert_within(rt, at, bytes.len() as u64, pages);
+            store.copy_page_part(at, bytes);
+        }
+        Step::CopyWithin(to, from, len) => {
+            assert_within(rt, to, len, pages);
+            assert_within(rt, from, len, pages);
+            store.copy_within(to, from, len);
+        }
+        Step::XorPagePart(at, bytes) => {
+            assert_within(rt, at, bytes.len() as u64, pages);
+            store.xor_page_part(at, bytes);
+        }
+        Step::XorWithin(to, from, len) => {
+            assert_within(rt, to, len, pages);
+            assert_within(rt, from, len, pages);
+            store.xor_within(to, from, len);
+        }
+        Step::ZeroPage(page) => {
+            assert_within(rt, 4096 * page as u64, 4096, pages);
+            store.zero_page(page);
+        }
+        Step::Get(at, byte) => {
+            assert_within(rt, at, 1, pages);
+            ensure(rt, store.get(at) == byte);
+        }
+        Step::Has(at, bytes) => {
+            assert_within(rt, at, bytes.len() as u64, pages);
+            assert_bytes(rt, store, at, bytes);
+        }
+    }
+}
+
+const ON_TWO_PAGES: &[Step] = &[
+    Step::Has(4094, &[0, 0, 0, 0]),
+    Step::Fill(4093, 5, 7),
+    Step::Put(4095, 9),
+    Step::Has(4092, &[0, 7, 7, 9, 7, 7, 0]),
+    Step::CopyPagePart(4094, &[1, 2, 3]),
+    Step::Has(4092, &[0, 7, 1, 2, 3, 7, 0]),
+    Step::Get(4096, 3),
+    Step::ZeroPage(1),
+    Step::Has(4092, &[0, 7, 1, 2, 0, 0, 0]),
+    Step::ZeroPage(0),
+    Step::Has(4092, &[0, 0, 0, 0, 0, 0, 0]),
+];
+
+/// Copies and exclusive ors. Parts that overlap are read before they are written.
+const OVERLAPS: &[Step] = &[
+    Step::CopyPagePart(0, &[1, 2, 3, 4, 5, 6]),
+    Step::CopyWithin(2, 0, 4),
+    Step::Has(0, &[1, 2, 1, 2, 3, 4, 0]),
+    Step::CopyWithin(0, 1, 5),
+    Step::Has(0, &[2, 1, 2, 3, 4, 4, 0]),
+    Step::XorPagePart(0, &[0xff, 1]),
+    Step::Has(0, &[0xfd, 0, 2, 3, 4, 4, 0]),
+    Step::XorWithin(2, 1, 4),
+    Step::Has(0, &[0xfd, 0, 2, 1, 7, 0, 0]),
+];
+
+const SIXTEEN: &[u8] = &[0, 0, 0, 0, 0, 0, 0, 0, 0, 0, 0, 0, 0, 0, 0, 0];
 
 /// A byte far from others stands between zeros, and pages after it are zeros.
-#[test]
-fn byte_far_from_others(rt: HostRuntime) {
-    let rt = &rt;
-    let mut store = forty_pages(rt, rt.alloc());
-    assert_bytes(rt, &store, 4096 * 39, &[0; 16]);
-    store.zero_page(39);
-    store.put(4096 * 20 + 5, 7);
-    assert_bytes(rt, &store, 4096 * 20 + 4, &[0, 7, 0]);
-    assert_bytes(rt, &store, 4096 * 36 + 4, &[0; 16]);
-}
+const FAR_BYTE: &[Step] = &[
+    Step::Has(4096 * 39, SIXTEEN),
+    Step::ZeroPage(39),
+    Step::Put(4096 * 20 + 5, 7),
+    Step::Has(4096 * 20 + 4, &[0, 7, 0]),
+    Step::Has(4096 * 36 + 4, SIXTEEN),
+];
 
 /// Bytes are copied to pages that were never written, and zeros from them.
-#[test]
-fn copies_to_and_from_far_pages(rt: HostRuntime) {
-    let rt = &rt;
-    let mut store = forty_pages(rt, rt.alloc());
-    store.put(4096 * 20 + 5, 7);
-    store.copy_within(4096 * 38, 4096 * 20 + 4, 3);
-    assert_bytes(rt, &store, 4096 * 38, &[0, 7, 0]);
-    store.copy_within(4096 * 20, 4096 * 39, 8);
-    assert_bytes(rt, &store, 4096 * 20 + 4, &[0, 0, 0]);
-}
+const FAR_COPIES: &[Step] = &[
+    Step::Put(4096 * 20 + 5, 7),
+    Step::CopyWithin(4096 * 38, 4096 * 20 + 4, 3),
+    Step::Has(4096 * 38, &[0, 7, 0]),
+    Step::CopyWithin(4096 * 20, 4096 * 39, 8),
+    Step::Has(4096 * 20 + 4, &[0, 0, 0]),
+];
 
 /// A byte of a page that was never written is a zero in an exclusive or.
+const FAR_XOR: &[Step] = &[
+    Step::XorPagePart(4096 * 38 + 1, &[7]),
+    Step::Has(4096 * 38, &[0, 7, 0]),
+];
+
+/// The number of pages of a store, and the steps in it.
+const STORES: &[(u32, &[Step])] = &[
+    (2, ON_TWO_PAGES),
+    (1, OVERLAPS),
+    (40, FAR_BYTE),
+    (40, FAR_COPIES),
+    (40, FAR_XOR),
+];
+
+/// Takes the steps in a new store of `pages` pages.
+fn take_all(rt: &impl Abort, alloc: Global, pages: u32, steps: &[Step]) {
+    let mut store = ByteStore::new(alloc, pages).expect(rt, "pages");
+    for step in steps {
+        take(rt, &mut store, pages, *step);
+    }
+}
+
 #[test]
-fn exclusive_or_of_far_pages(rt: HostRuntime) {
-    let mut store = forty_pages(&rt, rt.alloc());
-    store.xor_page_part(4096 * 38 + 1, &[7]);
-    assert_bytes(&rt, &store, 4096 * 38, &[0, 7, 0]);
+fn bytes_after_each_step(rt: HostRuntime) {
+    for (pages, steps) in STORES {
+        take_all(&rt, rt.alloc(), *pages, steps);
+    }
 }

@@ -1,7 +1,9 @@
-ghost use Rattle.std.specs.Prelude.{◌≡◌, ◌+◌, ◌*◌, ◌≤◌, length};
+ghost use Rattle.std.specs.Prelude.{◌≡◌, ◌*◌, ◌≤◌, length, IsTrue};
+ghost use Rattle.copy_packet.specs.Runs.{CanRun, IsPart};
 
+use crate::copies::bytes::{assert_bytes, assert_within};
 use crate::copies::stores::stores;
-use crate::wanted::{are_bytes, are_packets};
+use crate::wanted::{are_bytes, are_packets, ensure};
 use copy_packet::{PagePlaces, PlaceMap, PlaceRow, ProbeBytes, Stores, cut, run, show};
 use std::alloc::Global;
 use std::process::Abort;
@@ -31,60 +33,132 @@ fn assert_cut(
     are_packets(rt, packets.as_slice(), want);
 }
 
-/// Asserts that the frames have these bytes from `at` on.
-fn assert_frames(rt: &impl Abort, stores: &Stores, at: u64, want: &[u8])
-    requires page { length want.now ≤ 4096 }
-    requires inside { at + length want.now ≤ length stores.now.frames }
-{
-    are_bytes(rt, stores.frames.part(at, want.len() as u64), want);
+/// What is done to the stores and to the bytes that are shown, as the calls are named, or bytes that are then to be there.
+#[derive(Clone, Copy)]
+enum Step {
+    Map(u32, u32),
+    Copy(u64, &'static [u8]),
+    Run(Packet),
+    Show(Packet),
+    Set(&'static [u8]),
+    Frames(u64, &'static [u8]),
+    Vram(u64, &'static [u8]),
+    Shown(&'static [u8]),
 }
 
-/// Asserts that these bytes were shown.
-fn assert_shown(rt: &impl Abort, out: &ProbeBytes, want: &[u8]) {
-    are_bytes(rt, out.bytes(), want);
+/// Returns whether the range is near the start of a page that the stores have.
+fn is_near(stores: &Stores, place: PagePlace, off: u32, len: u32) -> bool
+    requires vram { length stores.now.vram ≡ 4096 }
+    requires frames { length stores.now.frames ≡ 4096 * 8 }
+    requires aper { length stores.now.aper ≡ 4 }
+    ensures part { IsTrue result → IsPart stores.now place off len }
+    ensures few { IsTrue result → len ≤ 100 }
+{
+    let is_there = match place {
+        PagePlace::Vram(page) => page == 0,
+        PagePlace::Frame(frame) => frame < 8,
+        PagePlace::Aper(page) => {
+            page < 4 && matches!(stores.aper.get(page), Some(frame) if frame < 8)
+        }
+    };
+    is_there && off <= 100 && len <= 100
 }
 
-/// Makes stores of a page of VRAM, eight frames, and an aperture of four pages.
-fn eight_frames(rt: &impl Abort, alloc: Global) -> Stores
-    ensures vram { length result.vram ≡ 4096 }
-    ensures frames { length result.frames ≡ 4096 * 8 }
-    ensures aper { length result.aper ≡ 4 }
+/// Returns whether each part of the packet is near the start of a page that the stores have.
+fn can_run(stores: &Stores, packet: &Packet) -> bool
+    requires vram { length stores.now.vram ≡ 4096 }
+    requires frames { length stores.now.frames ≡ 4096 * 8 }
+    requires aper { length stores.now.aper ≡ 4 }
+    ensures { IsTrue result → CanRun stores.now packet.now }
 {
-    stores(rt, alloc, 1, 8, 4)
+    match *packet {
+        Packet::Fill { to, off, len, .. } => is_near(stores, to, off, len),
+        Packet::Copy {
+            to,
+            toff,
+            from,
+            foff,
+            len,
+        }
+        | Packet::Xor {
+            to,
+            toff,
+            from,
+            foff,
+            len,
+        } => is_near(stores, to, toff, len) && is_near(stores, from, foff, len),
+        Packet::Probe { from, off, len } => is_near(stores, from, off, len),
+    }
+}
+
+/// Takes a step in stores of a page of VRAM, eight frames, and an aperture of four pages.
+fn take(rt: &impl Abort, stores: &mut Stores, out: &mut ProbeBytes, step: &Step)
+    requires vram { length stores.old.vram ≡ 4096 }
+    requires frames { length stores.old.frames ≡ 4096 * 8 }
+    requires aper { length stores.old.aper ≡ 4 }
+    ensures vram { length stores.new.vram ≡ 4096 }
+    ensures frames { length stores.new.frames ≡ 4096 * 8 }
+    ensures aper { length stores.new.aper ≡ 4 }
+{
+    match step {
+        Step::Map(page, frame) => {
+            ensure(rt, *page < 4);
+            stores.aper.set(*page, *frame);
+        }
+        Step::Copy(at, bytes) => {
+            assert_within(rt, *at, bytes.len() as u64, 8);
+            stores.frames.copy_page_part(*at, bytes);
+        }
+        Step::Run(packet) => {
+            ensure(rt, can_run(stores, packet));
+            run(packet, stores, out);
+        }
+        Step::Show(packet) => {
+            ensure(rt, can_run(stores, packet));
+            show(packet, stores, out);
+        }
+        Step::Set(bytes) => {
+            ensure(rt, bytes.len() <= 256);
+            out.set(bytes);
+        }
+        Step::Frames(at, bytes) => {
+            assert_within(rt, *at, bytes.len() as u64, 8);
+            assert_bytes(rt, &stores.frames, *at, bytes);
+        }
+        Step::Vram(at, bytes) => {
+            assert_within(rt, *at, bytes.len() as u64, 1);
+            assert_bytes(rt, &stores.vram, *at, bytes);
+        }
+        Step::Shown(bytes) => are_bytes(rt, out.bytes(), bytes),
+    }
 }
 
 /// A packet goes to the frame to which its page is mapped when it runs.
-#[test]
-fn packet_follows_the_aperture(rt: HostRuntime) {
-    let rt = &rt;
-    let mut stores = eight_frames(rt, rt.alloc());
-    let mut out = ProbeBytes::new(rt.alloc()).expect(rt, "bytes");
-    stores.aper.set(3, 5);
-    let packet = Packet::Fill {
+const THROUGH_THE_APERTURE: &[Step] = &[
+    Step::Map(3, 5),
+    Step::Map(3, 6),
+    Step::Run(Packet::Fill {
         to: PagePlace::Aper(3),
         off: 0,
         len: 1,
         byte: 170,
-    };
-    stores.aper.set(3, 6);
-    run(&packet, &mut stores, &mut out);
-    assert_frames(rt, &stores, 4096 * 5, &[0, 0]);
-    assert_frames(rt, &stores, 4096 * 6, &[170, 0]);
-    are_bytes(rt, stores.vram.part(0, 2), &[0, 0]);
-    assert_shown(rt, &out, &[]);
-    drop(stores);
-}
+    }),
+    Step::Frames(4096 * 5, &[0, 0]),
+    Step::Frames(4096 * 6, &[170, 0]),
+    Step::Vram(0, &[0, 0]),
+    Step::Shown(&[]),
+];
 
 const A: BufId = BufId(0);
 
 const B: BufId = BufId(1);
 
-const BUFFERS: [(BufId, &[PagePlace]); 2] = [
+const BUFFERS: &[(BufId, &[PagePlace])] = &[
     (A, &[PagePlace::Frame(0)]),
     (B, &[PagePlace::Frame(1)]),
 ];
 
-const OPS: [Op; 3] = [
+const OPS: &[Op] = &[
     Op::Copy {
         dst: B,
         doff: 4,
@@ -127,25 +201,17 @@ const PROBE: Packet = Packet::Probe {
 };
 
 /// The packets of a job of three operations leave and show the bytes that are wanted.
-#[test]
-fn job_of_three_ops(rt: HostRuntime) {
-    let rt = &rt;
-    let mut stores = eight_frames(rt, rt.alloc());
-    let mut out = ProbeBytes::new(rt.alloc()).expect(rt, "bytes");
-    stores.frames.copy_page_part(0, &[1, 2]);
-    run(&COPY, &mut stores, &mut out);
-    run(&FILL, &mut stores, &mut out);
-    run(&PROBE, &mut stores, &mut out);
-    assert_shown(rt, &out, &[0, 1, 2, 0]);
-    assert_frames(rt, &stores, 0, &[0xff, 2, 0]);
-    assert_frames(rt, &stores, 4096 + 3, &[0, 1, 2, 0]);
-    drop(stores);
-}
+const THREE_OPS: &[Step] = &[
+    Step::Copy(0, &[1, 2]),
+    Step::Run(COPY),
+    Step::Run(FILL),
+    Step::Run(PROBE),
+    Step::Shown(&[0, 1, 2, 0]),
+    Step::Frames(0, &[0xff, 2, 0]),
+    Step::Frames(4096 + 3, &[0, 1, 2, 0]),
+];
 
-const BEHIND: [(BufId, &[PagePlace]); 1] = [(
-    BufId(7),
-    &[PagePlace::Frame(2), PagePlace::Frame(0)],
-)];
+const BEHIND: &[(BufId, &[PagePlace])] = &[(BufId(7), &[PagePlace::Frame(2), PagePlace::Frame(0)])];
 
 const OVER_THE_BORDER: Op = Op::Fill {
     dst: BufId(7),
@@ -154,7 +220,7 @@ const OVER_THE_BORDER: Op = Op::Fill {
     byte: 9,
 };
 
-const PIECES: [Packet; 2] = [
+const PIECES: &[Packet] = &[
     Packet::Fill {
         to: PagePlace::Frame(2),
         off: 4094,
@@ -199,22 +265,17 @@ const XOR_BACK: Packet = Packet::Xor {
 };
 
 /// Bytes go from a store to the other, and a packet that isn't a probe shows nothing.
-#[test]
-fn packets_between_vram_and_frames(rt: HostRuntime) {
-    let rt = &rt;
-    let mut stores = eight_frames(rt, rt.alloc());
-    let mut out = ProbeBytes::new(rt.alloc()).expect(rt, "bytes");
-    stores.frames.copy_page_part(4096 * 2 + 10, &[1, 2, 3]);
-    run(&TO_VRAM, &mut stores, &mut out);
-    run(&VRAM_SHOWN, &mut stores, &mut out);
-    assert_shown(rt, &out, &[0, 1, 2, 3, 0]);
-    run(&XOR_BACK, &mut stores, &mut out);
-    assert_frames(rt, &stores, 4096 * 2 + 9, &[0, 3, 1, 3, 0]);
-    assert_shown(rt, &out, &[]);
-    out.set(&[4, 5]);
-    assert_shown(rt, &out, &[4, 5]);
-    drop(stores);
-}
+const BETWEEN_VRAM_AND_FRAMES: &[Step] = &[
+    Step::Copy(4096 * 2 + 10, &[1, 2, 3]),
+    Step::Run(TO_VRAM),
+    Step::Run(VRAM_SHOWN),
+    Step::Shown(&[0, 1, 2, 3, 0]),
+    Step::Run(XOR_BACK),
+    Step::Frames(4096 * 2 + 9, &[0, 3, 1, 3, 0]),
+    Step::Shown(&[]),
+    Step::Set(&[4, 5]),
+    Step::Shown(&[4, 5]),
+];
 
 const LOOK: Packet = Packet::Probe {
     from: PagePlace::Aper(3),
@@ -230,17 +291,36 @@ const CHANGE: Packet = Packet::Fill {
 };
 
 /// A probe is shown over lent stores, through the aperture; another packet shows nothing and isn't done.
-#[test]
-fn probe_over_lent_stores(rt: HostRuntime) {
-    let rt = &rt;
-    let mut stores = eight_frames(rt, rt.alloc());
-    let mut out = ProbeBytes::new(rt.alloc()).expect(rt, "bytes");
-    stores.aper.set(3, 2);
-    stores.frames.copy_page_part(4096 * 2 + 10, &[1, 2, 3]);
-    show(&LOOK, &stores, &mut out);
-    assert_shown(rt, &out, &[0, 1, 2, 3, 0]);
-    show(&CHANGE, &stores, &mut out);
-    assert_shown(rt, &out, &[]);
-    assert_frames(rt, &stores, 4096 * 2 + 9, &[0, 1, 2, 3, 0]);
+const OVER_LENT_STORES: &[Step] = &[
+    Step::Map(3, 2),
+    Step::Copy(4096 * 2 + 10, &[1, 2, 3]),
+    Step::Show(LOOK),
+    Step::Shown(&[0, 1, 2, 3, 0]),
+    Step::Show(CHANGE),
+    Step::Shown(&[]),
+    Step::Frames(4096 * 2 + 9, &[0, 1, 2, 3, 0]),
+];
+
+/// Takes the steps in new stores of a page of VRAM, eight frames, and an aperture of four pages.
+fn take_all(rt: &impl Abort, alloc: Global, steps: &[Step]) {
+    let mut stores = stores(rt, alloc, 1, 8, 4);
+    let mut out = ProbeBytes::new(alloc).expect(rt, "bytes");
+    for step in steps {
+        take(rt, &mut stores, &mut out, step);
+    }
     drop(stores);
+}
+
+const RUNS: &[&[Step]] = &[
+    THROUGH_THE_APERTURE,
+    THREE_OPS,
+    BETWEEN_VRAM_AND_FRAMES,
+    OVER_LENT_STORES,
+];
+
+#[test]
+fn packets_leave_and_show_bytes(rt: HostRuntime) {
+    for steps in RUNS {
+        take_all(&rt, rt.alloc(), steps);
+    }
 }

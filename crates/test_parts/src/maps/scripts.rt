@@ -27,20 +27,6 @@ pub enum MapLine {
     Unmap(u32, BufId),
 }
 
-/// Declares a buffer of two pages.
-fn two_pages(alloc: Global) -> Decl {
-    Decl {
-        name: Name::new(alloc),
-        pages: 2,
-        prio: 1,
-        group: None,
-        align: 1,
-        placement: Placement {
-            list: FlaggedPlaces::new(alloc),
-        },
-    }
-}
-
 /// Returns the mark of `line`.
 fn mark_of(line: MapLine) -> Mark {
     let (thread, kind) = match line {
@@ -54,11 +40,22 @@ fn mark_of(line: MapLine) -> Mark {
     }
 }
 
-/// Declares two buffers of two pages.
-fn two_buffers(rt: &impl Abort, alloc: Global) -> Decls {
+/// Declares buffers of these pages, each of this priority.
+pub fn declared(rt: &impl Abort, alloc: Global, prio: u32, pages: &[u32]) -> Decls {
     let mut buffers = Decls::new(alloc);
-    buffers.push(two_pages(alloc)).expect(rt, "a buffer");
-    buffers.push(two_pages(alloc)).expect(rt, "a buffer");
+    for pages in pages {
+        let decl = Decl {
+            name: Name::new(alloc),
+            pages: *pages,
+            prio,
+            group: None,
+            align: 1,
+            placement: Placement {
+                list: FlaggedPlaces::new(alloc),
+            },
+        };
+        buffers.push(decl).expect(rt, "a buffer");
+    }
     buffers
 }
 
@@ -76,7 +73,7 @@ pub fn maps_of(rt: &impl Abort, alloc: Global, lines: &[MapLine]) -> CpuMaps {
     let script = Script {
         version: 2,
         sizes: SIZES,
-        buffers: two_buffers(rt, alloc),
+        buffers: declared(rt, alloc, 1, &[2, 2]),
         threads: CommandLists::new(alloc),
         turns: TurnLines::new(alloc),
         marks: marks_of(rt, alloc, lines),
@@ -84,23 +81,16 @@ pub fn maps_of(rt: &impl Abort, alloc: Global, lines: &[MapLine]) -> CpuMaps {
     CpuMaps::new(alloc, &script).expect(rt, "mappings")
 }
 
-/// Asserts that the mapping is of this thread and buffer, with two pages.
-fn assert_area(rt: &impl Abort, area: Option<&Area>, want: &(u32, BufId)) {
-    match area {
-        Some(area) => {
-            ensure(rt, (area.thread, area.b) == *want);
-            ensure(rt, area.entries.items() == [None, None].as_slice());
-        }
-        None => ensure(rt, false),
-    }
+/// Returns whether the mapping is of this thread and buffer, with two pages.
+fn is_area(area: &Area, want: &(u32, BufId)) -> bool {
+    (area.thread, area.b) == *want && area.entries.items() == [None, None].as_slice()
 }
 
 /// Asserts that the mappings are of these threads and buffers, with two pages each.
 fn assert_areas(rt: &impl Abort, maps: &CpuMaps, want: &[(u32, BufId)]) {
     ensure(rt, maps.areas().len() == want.len());
-    let mut areas = maps.areas().iter();
-    for owner in want {
-        assert_area(rt, areas.next(), owner);
+    for (area, owner) in maps.areas().iter().zip(want) {
+        ensure(rt, is_area(area, owner));
     }
 }
 

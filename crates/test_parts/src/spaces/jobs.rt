@@ -33,20 +33,11 @@ fn assert_job(rt: &impl Abort, alloc: Global, space: &Space, ops: &[VOp], want: 
     }
 }
 
-/// Asserts that the part is this one.
-fn is_piece(rt: &impl Abort, piece: Option<&Piece>, want: &(BufId, u32, u32)) {
-    match piece {
-        Some(piece) => ensure(rt, (piece.b, piece.off, piece.len) == *want),
-        None => ensure(rt, false),
-    }
-}
-
 /// Asserts that the parts are these.
 fn are_pieces(rt: &impl Abort, pieces: &[Piece], want: &[(BufId, u32, u32)]) {
     ensure(rt, pieces.len() == want.len());
-    let mut pieces = pieces.iter();
-    for told in want {
-        is_piece(rt, pieces.next(), told);
+    for (piece, told) in pieces.iter().zip(want) {
+        ensure(rt, (piece.b, piece.off, piece.len) == *told);
     }
 }
 
@@ -70,9 +61,9 @@ fn assert_pieces(
     }
 }
 
-const TWO: [Request; 2] = [Map(16, 4, A, 0), Map(17, 2, B, 0)];
+const TWO: &[Request] = &[Map(16, 4, A, 0), Map(17, 2, B, 0)];
 
-const OVER_A_BORDER: [VOp; 2] = [
+const OVER_A_BORDER: &[VOp] = &[
     VOp::Fill {
         addr: 69630,
         len: 4,
@@ -84,7 +75,7 @@ const OVER_A_BORDER: [VOp; 2] = [
     },
 ];
 
-const ON_BOTH_SIDES: [Op; 4] = [
+const ON_BOTH_SIDES: &[Op] = &[
     Op::Fill {
         dst: A,
         off: 4094,
@@ -112,21 +103,21 @@ const ON_BOTH_SIDES: [Op; 4] = [
 #[test]
 fn operations_are_cut_at_a_border(rt: HostRuntime) {
     let alloc = rt.alloc();
-    let space = space_of(&rt, alloc, &TWO);
-    assert_job(&rt, alloc, &space, &OVER_A_BORDER, &ON_BOTH_SIDES);
+    let space = space_of(&rt, alloc, TWO);
+    assert_job(&rt, alloc, &space, OVER_A_BORDER, ON_BOTH_SIDES);
 }
 
 /// The requests of a space with a hole at page 18.
-const HOLED: [Request; 3] = [Map(16, 4, A, 0), Map(17, 2, B, 0), Unmap(18, 1)];
+const HOLED: &[Request] = &[Map(16, 4, A, 0), Map(17, 2, B, 0), Unmap(18, 1)];
 
-const IN_THE_HOLE: [VOp; 1] = [VOp::Fill {
+const IN_THE_HOLE: &[VOp] = &[VOp::Fill {
     addr: 73728,
     len: 1,
     byte: 0,
 }];
 
 /// Operations of which the second comes into the hole with its last byte.
-const INTO_THE_HOLE: [VOp; 2] = [
+const INTO_THE_HOLE: &[VOp] = &[
     VOp::Fill {
         addr: 69630,
         len: 4,
@@ -142,9 +133,9 @@ const INTO_THE_HOLE: [VOp; 2] = [
 fn page_that_is_not_mapped(rt: HostRuntime) {
     let rt = &rt;
     let alloc = rt.alloc();
-    let space = space_of(rt, alloc, &HOLED);
-    assert_job(rt, alloc, &space, &IN_THE_HOLE, &[]);
-    assert_job(rt, alloc, &space, &INTO_THE_HOLE, &[]);
+    let space = space_of(rt, alloc, HOLED);
+    assert_job(rt, alloc, &space, IN_THE_HOLE, &[]);
+    assert_job(rt, alloc, &space, INTO_THE_HOLE, &[]);
     assert_pieces(rt, alloc, &space, 65535, 1, &[]);
     assert_pieces(rt, alloc, &space, 69632, 8192, &[]);
     assert_pieces(rt, alloc, &space, 81919, 2, &[]);
@@ -152,14 +143,14 @@ fn page_that_is_not_mapped(rt: HostRuntime) {
     assert_pieces(rt, alloc, &space, 77824, 4096, &[(A, 12288, 4096)]);
 }
 
-const FOUR: [Request; 4] = [
+const FOUR: &[Request] = &[
     Map(0, 2, A, 1),
     Map(2, 2, A, 5),
     Map(10, 1, B, 0),
     Map(11, 3, C, 2),
 ];
 
-const COPIES: [VOp; 2] = [
+const COPIES: &[VOp] = &[
     VOp::Copy {
         addr: 8000,
         from: 45000,
@@ -173,7 +164,7 @@ const COPIES: [VOp; 2] = [
 ];
 
 /// The copies by name. Each part ends where one of the two ranges comes to another mapping.
-const COPIES_BY_NAME: [Op; 6] = [
+const COPIES_BY_NAME: &[Op] = &[
     Op::Copy {
         dst: A,
         doff: 12096,
@@ -222,8 +213,8 @@ const COPIES_BY_NAME: [Op; 6] = [
 fn copies_are_cut_at_both_borders(rt: HostRuntime) {
     let rt = &rt;
     let alloc = rt.alloc();
-    let space = space_of(rt, alloc, &FOUR);
-    assert_job(rt, alloc, &space, &COPIES, &COPIES_BY_NAME);
+    let space = space_of(rt, alloc, FOUR);
+    assert_job(rt, alloc, &space, COPIES, COPIES_BY_NAME);
     let all = [(A, 4096, 8192), (A, 20480, 8192)];
     assert_pieces(rt, alloc, &space, 0, 16384, &all);
     assert_pieces(rt, alloc, &space, 8191, 2, &[(A, 12287, 1), (A, 20480, 1)]);

@@ -92,63 +92,63 @@ fn is_told(step: VStep, want: Told) -> bool {
     }
 }
 
-/// Asserts that the step is the one that is wanted.
-fn assert_step(rt: &impl Abort, step: Option<&VStep>, want: &Told) {
-    match step {
-        Some(step) => ensure(rt, is_told(*step, *want)),
-        None => ensure(rt, false),
-    }
-}
-
 /// Asserts that the steps are these.
 fn assert_told(rt: &impl Abort, steps: &[VStep], want: &[Told]) {
     ensure(rt, steps.len() == want.len());
-    let mut steps = steps.iter();
-    for told in want {
-        assert_step(rt, steps.next(), told);
+    for (step, told) in steps.iter().zip(want) {
+        ensure(rt, is_told(*step, *told));
     }
 }
 
-/// Asserts that the request has these steps.
-fn assert_answer(rt: &impl Abort, alloc: Global, space: &mut Space, row: &(Request, &[Told])) {
-    let steps = answer(rt, alloc, space, row.0);
-    assert_told(rt, steps.items(), row.1);
+/// Asserts that the first steps of these are those of the request, as many as are told. Returns the others.
+fn assert_answer<'a>(
+    rt: &impl Abort,
+    alloc: Global,
+    space: &mut Space,
+    row: &(Request, usize),
+    steps: &'a [Told],
+) -> &'a [Told] {
+    let (request, count) = *row;
+    ensure(rt, count <= steps.len());
+    let (want, others) = steps.split_at(count);
+    let got = answer(rt, alloc, space, request);
+    assert_told(rt, got.items(), want);
+    others
 }
 
-/// Asserts that the page is mapped to a page of a buffer, or to none.
-fn assert_page(rt: &impl Abort, space: &Space, row: &(u32, Option<(BufId, u32)>)) {
-    ensure(rt, space.at(row.0) == row.1);
-}
-
-/// Requests of a new space, each with its steps, and what then stands at pages.
+/// Requests of a new space, each with the number of its steps, the steps of all, and what then stands at pages. (One list of steps: each list in
+/// a constant adds to the proof of the function that names it.)
 struct Case {
-    rows: &'static [(Request, &'static [Told])],
+    rows: &'static [(Request, usize)],
+    steps: &'static [Told],
     pages: &'static [(u32, Option<(BufId, u32)>)],
 }
 
 /// Asserts that the requests have their steps and the pages stand as is wanted.
 fn assert_case(rt: &impl Abort, alloc: Global, case: &Case) {
     let mut space = Space::new(alloc);
+    let mut steps = case.steps;
     for row in case.rows {
-        assert_answer(rt, alloc, &mut space, row);
+        steps = assert_answer(rt, alloc, &mut space, row, steps);
     }
-    for page in case.pages {
-        assert_page(rt, &space, page);
+    ensure(rt, steps.is_empty());
+    for (page, want) in case.pages {
+        ensure(rt, space.at(*page) == *want);
     }
 }
 
 /// Requests where a remap keeps both ends.
 const BOTH_ENDS: Case = Case {
     rows: &[
-        (Map(16, 4, A, 0), &[Made(16, 20, A, 0)]),
-        (
-            Map(17, 2, B, 0),
-            &[
-                Kept(16, 20, Some((16, 17)), Some((19, 20))),
-                Made(17, 19, B, 0),
-            ],
-        ),
-        (Unmap(18, 1), &[Kept(17, 19, Some((17, 18)), None)]),
+        (Map(16, 4, A, 0), 1),
+        (Map(17, 2, B, 0), 2),
+        (Unmap(18, 1), 1),
+    ],
+    steps: &[
+        Made(16, 20, A, 0),
+        Kept(16, 20, Some((16, 17)), Some((19, 20))),
+        Made(17, 19, B, 0),
+        Kept(17, 19, Some((17, 18)), None),
     ],
     pages: &[
         (15, None),
@@ -163,18 +163,20 @@ const BOTH_ENDS: Case = Case {
 /// Requests that make a hole in a mapping. The last but one takes what is left, and the last nothing.
 const HOLES: Case = Case {
     rows: &[
-        (Map(0, 8, A, 10), &[Made(0, 8, A, 10)]),
-        (Unmap(2, 3), &[Kept(0, 8, Some((0, 2)), Some((5, 8)))]),
-        (Unmap(2, 3), &[]),
-        (
-            Unmap(1, 5),
-            &[
-                Kept(0, 2, Some((0, 1)), None),
-                Kept(5, 8, None, Some((6, 8))),
-            ],
-        ),
-        (Unmap(0, 4096), &[Gone(0, 1), Gone(6, 8)]),
-        (Unmap(0, 4096), &[]),
+        (Map(0, 8, A, 10), 1),
+        (Unmap(2, 3), 1),
+        (Unmap(2, 3), 0),
+        (Unmap(1, 5), 2),
+        (Unmap(0, 4096), 2),
+        (Unmap(0, 4096), 0),
+    ],
+    steps: &[
+        Made(0, 8, A, 10),
+        Kept(0, 8, Some((0, 2)), Some((5, 8))),
+        Kept(0, 2, Some((0, 1)), None),
+        Kept(5, 8, None, Some((6, 8))),
+        Gone(0, 1),
+        Gone(6, 8),
     ],
     pages: &[(0, None), (6, None), (7, None)],
 };
@@ -182,19 +184,22 @@ const HOLES: Case = Case {
 /// Requests that map over several mappings.
 const OVER_SEVERAL: Case = Case {
     rows: &[
-        (Map(8, 2, C, 7), &[Made(8, 10, C, 7)]),
-        (Map(0, 2, A, 0), &[Made(0, 2, A, 0)]),
-        (Map(4, 2, B, 0), &[Made(4, 6, B, 0)]),
-        (
-            Map(1, 8, B, 100),
-            &[
-                Kept(0, 2, Some((0, 1)), None),
-                Gone(4, 6),
-                Kept(8, 10, None, Some((9, 10))),
-                Made(1, 9, B, 100),
-            ],
-        ),
-        (Map(1, 8, C, 0), &[Gone(1, 9), Made(1, 9, C, 0)]),
+        (Map(8, 2, C, 7), 1),
+        (Map(0, 2, A, 0), 1),
+        (Map(4, 2, B, 0), 1),
+        (Map(1, 8, B, 100), 4),
+        (Map(1, 8, C, 0), 2),
+    ],
+    steps: &[
+        Made(8, 10, C, 7),
+        Made(0, 2, A, 0),
+        Made(4, 6, B, 0),
+        Kept(0, 2, Some((0, 1)), None),
+        Gone(4, 6),
+        Kept(8, 10, None, Some((9, 10))),
+        Made(1, 9, B, 100),
+        Gone(1, 9),
+        Made(1, 9, C, 0),
     ],
     pages: &[
         (0, Some((A, 0))),
@@ -208,17 +213,18 @@ const OVER_SEVERAL: Case = Case {
 /// Requests whose mappings side by side stay two, also where the buffer's pages go on.
 const NEIGHBOURS: Case = Case {
     rows: &[
-        (Map(2, 2, A, 2), &[Made(2, 4, A, 2)]),
-        (Map(0, 2, A, 0), &[Made(0, 2, A, 0)]),
-        (Map(4, 2, A, 4), &[Made(4, 6, A, 4)]),
-        (
-            Unmap(1, 4),
-            &[
-                Kept(0, 2, Some((0, 1)), None),
-                Gone(2, 4),
-                Kept(4, 6, None, Some((5, 6))),
-            ],
-        ),
+        (Map(2, 2, A, 2), 1),
+        (Map(0, 2, A, 0), 1),
+        (Map(4, 2, A, 4), 1),
+        (Unmap(1, 4), 3),
+    ],
+    steps: &[
+        Made(2, 4, A, 2),
+        Made(0, 2, A, 0),
+        Made(4, 6, A, 4),
+        Kept(0, 2, Some((0, 1)), None),
+        Gone(2, 4),
+        Kept(4, 6, None, Some((5, 6))),
     ],
     pages: &[(0, Some((A, 0))), (4, None), (5, Some((A, 5)))],
 };
@@ -226,19 +232,17 @@ const NEIGHBOURS: Case = Case {
 /// Requests at the ends of the space.
 const ENDS: Case = Case {
     rows: &[
-        (
-            Map(1_048_575, 1, A, 4095),
-            &[Made(1_048_575, 1_048_576, A, 4095)],
-        ),
-        (
-            Map(1_044_480, 4096, B, 0),
-            &[Gone(1_048_575, 1_048_576), Made(1_044_480, 1_048_576, B, 0)],
-        ),
-        (Map(0, 1, C, 0), &[Made(0, 1, C, 0)]),
-        (
-            Unmap(1_048_575, 1),
-            &[Kept(1_044_480, 1_048_576, Some((1_044_480, 1_048_575)), None)],
-        ),
+        (Map(1_048_575, 1, A, 4095), 1),
+        (Map(1_044_480, 4096, B, 0), 2),
+        (Map(0, 1, C, 0), 1),
+        (Unmap(1_048_575, 1), 1),
+    ],
+    steps: &[
+        Made(1_048_575, 1_048_576, A, 4095),
+        Gone(1_048_575, 1_048_576),
+        Made(1_044_480, 1_048_576, B, 0),
+        Made(0, 1, C, 0),
+        Kept(1_044_480, 1_048_576, Some((1_044_480, 1_048_575)), None),
     ],
     pages: &[
         (0, Some((C, 0))),

@@ -1,9 +1,9 @@
+use crate::maps::scripts::declared;
 use crate::wanted::{ensure, is_number};
 use bo_table::{Bo, BoTable};
-use journal_model::{Decl, Name};
 use std::alloc::Global;
 use std::process::Abort;
-use ttm_base::{BufId, FlaggedPlaces, JobId, Loc, Mem, Placement, Span, Spans, Stamp, Usage};
+use ttm_base::{BufId, JobId, Loc, Mem, Span, Spans, Stamp, Usage};
 
 /// A change of a buffer, as the table's calls are named.
 #[derive(Clone, Copy)]
@@ -34,19 +34,6 @@ struct Look {
     unfilled: Option<u32>,
     pins: u8,
     holder: Option<Stamp>,
-}
-
-fn declared(alloc: Global, pages: u32) -> Decl {
-    Decl {
-        name: Name::new(alloc),
-        pages,
-        prio: 0,
-        group: None,
-        align: 1,
-        placement: Placement {
-            list: FlaggedPlaces::new(alloc),
-        },
-    }
 }
 
 /// Returns a span of three pages from `start` on.
@@ -111,10 +98,8 @@ fn take_change(rt: &impl Abort, alloc: Global, table: &mut BoTable, what: Change
 
 /// Asserts that the buffer lives, is pinned and held as is wanted, and stands where it is to stand.
 fn assert_seen(rt: &impl Abort, bo: &Bo, look: &Look) {
-    ensure(rt, bo.alive);
-    ensure(rt, bo.pins == look.pins);
+    ensure(rt, bo.alive && bo.pins == look.pins && bo.mem == look.mem);
     ensure(rt, bo.resv.holder() == look.holder);
-    ensure(rt, bo.mem == look.mem);
     ensure(rt, bo.spans.items().first().copied() == look.span);
     ensure(rt, bo.table.frames() == look.frames);
     is_number(rt, bo.table.first_unfilled(), look.unfilled);
@@ -351,15 +336,14 @@ const LIFE: &[(Change, Look)] = &[
 
 /// Makes a table of two dead buffers, of two pages and of three.
 fn two_buffers(rt: &impl Abort, alloc: Global) -> BoTable {
-    let decls = [declared(alloc, 2), declared(alloc, 3)];
-    BoTable::new(alloc, &decls, 1).expect(rt, "buffers")
+    let decls = declared(rt, alloc, 0, &[2, 3]);
+    BoTable::new(alloc, decls.items(), 1).expect(rt, "buffers")
 }
 
 /// Asserts that buffer `b` is dead and nobody pins it.
 fn assert_dead(rt: &impl Abort, table: &BoTable, b: BufId) {
     let bo = lent(rt, table, b);
-    ensure(rt, !bo.alive);
-    ensure(rt, bo.pins == 0);
+    ensure(rt, !bo.alive && bo.pins == 0);
 }
 
 /// Makes the change of `step`, and asserts that the second buffer is then seen as is wanted.

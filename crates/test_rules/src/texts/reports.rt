@@ -1,9 +1,9 @@
 ghost use Rattle.std.specs.Prelude.{◌≡◌, true};
 ghost use Rattle.journal_model.specs.scripts.ScriptRules.{is_script};
 
+use crate::making::{ensure, script_of};
 use journal_model::Script;
 use report_text::{Rule, read_report};
-use script_text::read_script;
 use std::alloc::Global;
 use std::process::Abort;
 
@@ -73,8 +73,8 @@ const REPORTS: &[(&str, usize, usize, Option<(u64, Rule)>)] = &[
     ("report 1\njournal 0", 0, 0, Some((0, Rule::Head))),
 ];
 
-/// Returns whether the report is read up to where it is told.
-fn reads(
+/// Asserts that the report is read up to where it is told.
+fn assert_report(
     rt: &impl Abort,
     alloc: Global,
     script: &Script,
@@ -82,22 +82,26 @@ fn reads(
     entries: usize,
     rest: usize,
     bad: Option<(u64, Rule)>,
-) -> bool
+)
     requires { is_script script.now ≡ true }
 {
     let parsed = read_report(alloc, script, text.as_bytes()).expect(rt, "memory");
-    let found = parsed.bad.map(|bad| (bad.entry, bad.rule));
-    parsed.entries.len() == entries && parsed.rest == rest && found == bad
+    ensure(rt, parsed.entries.len() == entries && parsed.rest == rest);
+    match (parsed.bad, bad) {
+        (Some(found), Some((entry, rule))) => ensure(
+            rt,
+            found.entry == entry && found.rule == rule,
+        ),
+        (None, None) => {}
+        _ => ensure(rt, false),
+    }
 }
 
 #[test]
 fn reports_up_to_a_fault(rt: HostRuntime) {
     let alloc = rt.alloc();
-    let script = read_script(alloc, SCRIPT.as_bytes()).expect(&rt, "a script");
+    let script = script_of(&rt, alloc, SCRIPT);
     for (text, entries, rest, bad) in REPORTS {
-        assert!(rt;
-            reads(&rt, alloc, &script, text, *entries, *rest, *bad),
-            "{text}"
-        );
+        assert_report(&rt, alloc, &script, text, *entries, *rest, *bad);
     }
 }

@@ -1,3 +1,4 @@
+use crate::making::ensure;
 use script_spelling::write_script;
 use script_text::read_script;
 use std::alloc::{AllocError, Global};
@@ -137,9 +138,8 @@ fn is_spelled(alloc: Global, text: &[u8]) -> bool {
 
 #[test]
 fn scripts_are_spelled_as_they_were_read(rt: HostRuntime) {
-    let alloc = rt.alloc();
     for row in ROWS {
-        let text = text_of(alloc, row).expect(&rt, "a script");
-        assert!(rt; is_spelled(alloc, text.as_bytes()), "{text}");
+        let text = text_of(rt.alloc(), row).expect(&rt, "a script");
+        ensure(&rt, is_spelled(rt.alloc(), text.as_bytes()));
     }
 }

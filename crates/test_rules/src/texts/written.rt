@@ -1,10 +1,11 @@
-use crate::making::script_of;
+use crate::making::{ensure, script_of};
 use entry_reader::read_report;
 use io_edge::MemSink;
 use journal_model::{Entry, Script};
 use page_accounts::{Account, Accounts};
 use report_text::report::{write_journal, write_outcome};
 use std::alloc::Global;
+use std::process::Abort;
 use text_line::Line;
 
 /// Two buffers, twelve threads without commands, and two engines.
@@ -86,24 +87,26 @@ const ACCOUNTS: Accounts = Accounts {
     },
 };
 
-/// Returns whether the report of these entries is written so.
-fn is_written(alloc: Global, script: &Script, journal: &[Entry]) -> bool {
+/// Asserts that the report of these entries is written so.
+fn assert_written(rt: &impl Abort, alloc: Global, script: &Script, journal: &[Entry]) {
     let mut line = Line::new(alloc);
-    let Ok(mut sink) = MemSink::new(alloc, 1000, 1000, Vec::new(alloc)) else {
-        return false;
-    };
-    write_journal(&mut line, script, journal, &mut sink).is_ok()
-        && write_outcome(&mut line, script, journal, &ACCOUNTS, &mut sink).is_ok()
-        && sink.bytes() == REPORT.as_bytes()
+    let mut sink = MemSink::new(alloc, 1000, 1000, Vec::new(alloc)).expect(rt, "a sink");
+    ensure(
+        rt,
+        write_journal(&mut line, script, journal, &mut sink).is_ok(),
+    );
+    ensure(
+        rt,
+        write_outcome(&mut line, script, journal, &ACCOUNTS, &mut sink).is_ok(),
+    );
+    ensure(rt, sink.bytes() == REPORT.as_bytes());
 }
 
 #[test]
 fn entries_that_were_read_are_written_with_their_results(rt: HostRuntime) {
+    let rt = &rt;
     let alloc = rt.alloc();
-    let script = script_of(&rt, alloc, SCRIPT);
-    let parsed = read_report(alloc, &script, REPORT.as_bytes()).expect(&rt, "memory");
-    let is_same = is_written(alloc, &script, parsed.entries.items());
-    drop(parsed);
-    drop(script);
-    assert!(rt; is_same);
+    let script = script_of(rt, alloc, SCRIPT);
+    let parsed = read_report(alloc, &script, REPORT.as_bytes()).expect(rt, "memory");
+    assert_written(rt, alloc, &script, parsed.entries.items());
 }
