@@ -75,3 +75,9 @@ pub differ : (d : Lean) (l r : ℕ) → Leans d l r → DifferBy 1 l r
 differ Left l r h = record { left = omega arith; right = omega arith }
 differ Even l r h = record { left = omega arith; right = omega arith }
 differ Right l r h = record { left = omega arith; right = omega arith }
+
+-- sides that have the same levels more lean alike
+pub leans_up : (d : Lean) (l r a : ℕ) → Leans d l r → Leans d (l + a) (r + a)
+leans_up Left l r a h = omega arith
+leans_up Even l r a h = omega arith
+leans_up Right l r a h = omega arith

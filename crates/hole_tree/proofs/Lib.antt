@@ -7,9 +7,11 @@ pub mod Found
 pub mod Heights
 pub mod LongestNode
 pub mod Looking
+pub mod Placing
 pub mod Resizing
 pub mod Rises
 pub mod Searching
 pub mod Sides
 pub mod SortedByLength
 pub mod Sorts
+pub mod Taking

@@ -69,17 +69,6 @@ pub low_top : {S : Type 0} (keeps : ℕ → S) (t : Top S) → IsTree keeps t �
 low_top keeps Empty s = record { fewer = omega arith; square = omega arith }
 low_top keeps (Full n) s = low_sound keeps n.value s
 
--- one with another side of the same height
-pub low_left : {S : Type 0} (keeps : ℕ → S) (n : Node S) (l : Shape) (k : Span) (r : Shape) → IsSound keeps n → l.height ≡ n.left.height → IsLow l → r ≡ n.right → IsLow (record { spans = l.spans ++ k ∷ r.spans; height = max l.height r.height + 1 })
-low_left keeps n l k r s e p f =
-    let right : r.height ≡ n.right.height = ap (λ t. t.height) f in
-    low_node l r k (max l.height r.height + 1) p (rw f s.sides.right) (differ n.lean l.height r.height (rw (e, right) s.lean)) refl
-
-pub low_right : {S : Type 0} (keeps : ℕ → S) (n : Node S) (l : Shape) (k : Span) (r : Shape) → IsSound keeps n → r.height ≡ n.right.height → IsLow r → l ≡ n.left → IsLow (record { spans = l.spans ++ k ∷ r.spans; height = max l.height r.height + 1 })
-low_right keeps n l k r s e p f =
-    let left : l.height ≡ n.left.height = ap (λ t. t.height) f in
-    low_node l r k (max l.height r.height + 1) (rw f s.sides.left) p (differ n.lean l.height r.height (rw (left, e) s.lean)) refl
-
 -- ---- a rising list
 
 pub node_rising : {s l : Shape} {k : Span} {r : Shape} → IsNode s l k r → IsRising s.spans → IsRising (l.spans ++ k ∷ r.spans)

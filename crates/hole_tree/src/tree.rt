@@ -1,5 +1,5 @@
 //! Holes in an order: a balanced tree (AVL) in which a node stores which side is higher, and what its sort keeps of each.
-ghost use Rattle.std.specs.Prelude.{◌≡◌, ◌+◌, ◌==◌, ◌≤◌, max, [], ◌∷◌, ◌++◌, IsSome, IfNone, IfSome, Some, is_some, option_map, if◌then◌else◌};
+ghost use Rattle.std.specs.Prelude.{◌≡◌, ◌+◌, ◌==◌, ◌≤◌, max, [], ◌∷◌, ◌++◌, true, IsSome, IfNone, IfSome, Some, is_some, option_map, if◌then◌else◌};
 ghost use Rattle.std.specs.Bool.{OnTrue};
 ghost use Rattle.std.specs.List.{find};
 ghost use Rattle.ttm_base.specs.Holes.{has_page};
@@ -123,14 +123,6 @@ impl<S: Side> Tree<S> {
         }
     }
 
-    /// The same, where it was `was` until a hole of `gone` pages went. Mostly that wasn't the longest.
-    fn kept_without(&self, was: S, gone: u32) -> S
-        requires { was ≡ S.keeps (max gone (longest self.now.spans)) }
-        ensures { result ≡ S.keeps (longest self.now.spans) }
-    {
-        if was.may_lose(gone) { self.kept() } else { was }
-    }
-
     /// The node at the root. Searches for a request open nodes here alone: this is the step that is counted.
     pub(crate) fn open<L: Ledger>(&self, steps: &mut Steps<L>) -> Option<&Node<S>>
         ensures none { IfNone result (self.now.spans ≡ []) }
@@ -161,7 +153,6 @@ impl<S: Side> Tree<S> {
     }
 
     /// Puts both sides of a root that was taken off in its place, without it.
-    #[tactic(auto, using(crate::proofs::Sides::low_root))]
     fn close_over(&mut self, mut node: Box<Node<S>>) -> Taken<S>
         requires off { self.old ≡ no_shape }
         requires sound { IsSound S.keeps node.value }
@@ -171,33 +162,28 @@ impl<S: Side> Tree<S> {
         ensures height { height_of node.value ≡ self.new.height + (if result.lower then 1 else 0) }
         ensures low { IsLow self.new }
     {
-        if node.right.is_empty() {
-            mem::swap(self, &mut node.left);
-            node.clear();
-            return Taken { node, lower: true };
+        let root = &mut *node;
+        if root.right.is_empty() {
+            mem::swap(self, &mut root.left);
+            return Taken::alone(node);
         }
-        if node.left.is_empty() {
-            mem::swap(self, &mut node.right);
-            node.clear();
-            return Taken { node, lower: true };
+        if root.left.is_empty() {
+            mem::swap(self, &mut root.right);
+            return Taken::alone(node);
         }
         let Taken {
-            node: mut first,
+            node: mut next,
             lower,
-        } = node.right.take_first();
-        mem::swap(&mut first.left, &mut node.left);
-        mem::swap(&mut first.right, &mut node.right);
-        first.lean = node.lean;
-        first.of_left = node.of_left;
-        first.of_right = first.right.kept_without(node.of_right, first.hole.pages());
-        node.clear();
-        let lower = lower && !grown_left(&mut first);
-        *self = Tree::of(first);
-        Taken { node, lower }
+        } = root.right.take_first();
+        let hole = next.hole;
+        next.hole = root.hole;
+        root.hole = hole;
+        let lower = shrunk_right(&mut node, hole.pages(), lower);
+        *self = Tree::of(node);
+        Taken { node: next, lower }
     }
 
     /// Takes out the first node.
-    #[tactic(auto, using(crate::proofs::Sides::low_root))]
     fn take_first(&mut self) -> Taken<S>
         requires { 1 ≤ self.old.height }
         ensures spans { self.old.spans ≡ result.node.value.hole ∷ self.new.spans }
@@ -208,18 +194,17 @@ impl<S: Side> Tree<S> {
         let Top::Full(node) = &mut self.top else {
             unreachable!()
         };
-        if !node.left.is_empty() {
-            let Taken { node: first, lower } = node.left.take_first();
-            node.of_left = node.left.kept_without(node.of_left, first.hole.pages());
-            let lower = lower && !grown_right(node);
+        let root = &mut **node;
+        if !root.left.is_empty() {
+            let Taken { node: first, lower } = root.left.take_first();
+            let lower = shrunk_left(node, first.hole.pages(), lower);
             return Taken { node: first, lower };
         }
         let Top::Full(mut node) = mem::replace(&mut self.top, Top::Empty) else {
             unreachable!()
         };
         mem::swap(self, &mut node.right);
-        node.clear();
-        Taken { node, lower: true }
+        Taken::alone(node)
     }
 
     /// The node at the root, for a search that isn't counted.
@@ -253,7 +238,7 @@ impl<S: Side> Tree<S> {
 
 impl<S: Sort> Tree<S> {
     /// Puts a node into its place, and says whether the tree has grown by a level.
-    #[tactic(auto, using(crate::proofs::Sides::low_root, crate::proofs::LongestNode::longest_placed))]
+    #[tactic(auto, using(crate::proofs::LongestNode::longest_placed))]
     pub(crate) fn insert(&mut self, fresh: Box<Node<S>>) -> bool
         requires sorted { IsSorted S.order self.old.spans }
         requires blank { IsBlankNode S.keeps fresh.value }
@@ -261,25 +246,22 @@ impl<S: Sort> Tree<S> {
         ensures height { self.new.height ≡ self.old.height + (if result then 1 else 0) }
         ensures low { IsLow self.new }
     {
-        match &mut self.top {
-            Top::Empty => {
-                self.top = Top::Full(fresh);
-                true
-            }
-            Top::Full(node) => {
-                if S::order().is_before(fresh.hole, node.hole) {
-                    node.of_left = node.of_left.both(S::of(fresh.hole.pages()));
-                    node.left.insert(fresh) && grown_left(node)
-                } else {
-                    node.of_right = node.of_right.both(S::of(fresh.hole.pages()));
-                    node.right.insert(fresh) && grown_right(node)
-                }
-            }
+        let Top::Full(node) = &mut self.top else {
+            self.top = Top::Full(fresh);
+            return true;
+        };
+        let root = &mut **node;
+        if S::order().is_before(fresh.hole, root.hole) {
+            root.of_left = root.of_left.both(S::of(fresh.hole.pages()));
+            let grew = root.left.insert(fresh);
+            return grown_left(node, grew);
         }
+        root.of_right = root.of_right.both(S::of(fresh.hole.pages()));
+        let grew = root.right.insert(fresh);
+        grown_right(node, grew)
     }
 
     /// Takes out the node of the hole that ties with the one that is sought.
-    #[tactic(auto, using(crate::proofs::Sides::low_root, crate::proofs::LongestNode::longest_untied))]
     pub(crate) fn take(&mut self, sought: &Hole) -> Taken<S>
         requires sorted { IsSorted S.order self.old.spans }
         requires held { IsSome (find (ties S.order sought.now) self.old.spans) }
@@ -292,16 +274,15 @@ impl<S: Sort> Tree<S> {
         let Top::Full(node) = &mut self.top else {
             unreachable!()
         };
-        if S::order().is_before(*sought, node.hole) {
-            let Taken { node: found, lower } = node.left.take(sought);
-            node.of_left = node.left.kept_without(node.of_left, found.hole.pages());
-            let lower = lower && !grown_right(node);
+        let root = &mut **node;
+        if S::order().is_before(*sought, root.hole) {
+            let Taken { node: found, lower } = root.left.take(sought);
+            let lower = shrunk_left(node, found.hole.pages(), lower);
             return Taken { node: found, lower };
         }
-        if S::order().is_before(node.hole, *sought) {
-            let Taken { node: found, lower } = node.right.take(sought);
-            node.of_right = node.right.kept_without(node.of_right, found.hole.pages());
-            let lower = lower && !grown_left(node);
+        if S::order().is_before(root.hole, *sought) {
+            let Taken { node: found, lower } = root.right.take(sought);
+            let lower = shrunk_right(node, found.hole.pages(), lower);
             return Taken { node: found, lower };
         }
         let Top::Full(found) = mem::replace(&mut self.top, Top::Empty) else {
@@ -322,6 +303,7 @@ impl<S: Longest> Tree<S> {
         let Top::Full(node) = &mut self.top else {
             unreachable!()
         };
+        let node = &mut **node;
         if from.start() < node.hole.start() {
             node.left.resize(from, to);
             node.of_left = node.left.kept_resized(node.of_left.longest(), *from, *to);
@@ -345,7 +327,12 @@ impl<S: Longest> Tree<S> {
         if pages >= was {
             return S::of(pages);
         }
-        self.kept_without(S::of(was), from.pages())
+        let was = S::of(was);
+        if was.may_lose(from.pages()) {
+            self.kept()
+        } else {
+            was
+        }
     }
 }
 
@@ -364,18 +351,6 @@ impl<S: Side> Node<S> {
         }
     }
 
-    /// Stores what a node stores that has no sides any more.
-    fn clear(&mut self)
-        requires left { self.old.left ≡ no_shape }
-        requires right { self.old.right ≡ no_shape }
-        ensures blank { IsBlankNode S.keeps self.new }
-        ensures hole { self.new.hole ≡ self.old.hole }
-    {
-        self.of_left = S::of(0);
-        self.of_right = S::of(0);
-        self.lean = Lean::Even;
-    }
-
     /// What a node above keeps of it and the holes on both sides.
     #[tactic(auto, using(crate::proofs::LongestNode::longest_node))]
     fn kept(&self) -> S
@@ -388,10 +363,90 @@ impl<S: Side> Node<S> {
     }
 }
 
+impl<S: Side> Taken<S> {
+    /// A node that has no sides any more, and whose level is gone.
+    fn alone(mut node: Box<Node<S>>) -> Taken<S>
+        requires left { node.value.left ≡ no_shape }
+        requires right { node.value.right ≡ no_shape }
+        ensures blank { IsBlankNode S.keeps result.node.value }
+        ensures hole { result.node.value.hole ≡ node.value.hole }
+        ensures lower { result.lower ≡ true }
+    {
+        let blank = &mut *node;
+        blank.of_left = S::of(0);
+        blank.of_right = S::of(0);
+        blank.lean = Lean::Even;
+        Taken { node, lower: true }
+    }
+}
+
+/// Mends a node whose left side has grown by a level where `grew`, and says whether the node has grown too.
+#[inline(always)]
+fn grown_left<S: Side>(node: &mut Box<Node<S>>, grew: bool) -> bool
+    requires lean { Leans node.old.value.lean node.old.value.left.height (node.old.value.right.height + (if grew then 1 else 0)) }
+    requires sides { HasSides S.keeps node.old.value }
+    ensures spans { spans_of node.new.value ≡ spans_of node.old.value }
+    ensures height { height_of node.new.value + (if grew then 1 else 0) ≡ max node.old.value.left.height (node.old.value.right.height + (if grew then 1 else 0)) + 1 + (if result then 1 else 0) }
+    ensures sound { IsSound S.keeps node.new.value }
+{
+    grew && mend_left(node)
+}
+
+/// The same, where the right side has grown.
+#[inline(always)]
+fn grown_right<S: Side>(node: &mut Box<Node<S>>, grew: bool) -> bool
+    requires lean { Leans node.old.value.lean (node.old.value.left.height + (if grew then 1 else 0)) node.old.value.right.height }
+    requires sides { HasSides S.keeps node.old.value }
+    ensures spans { spans_of node.new.value ≡ spans_of node.old.value }
+    ensures height { height_of node.new.value + (if grew then 1 else 0) ≡ max (node.old.value.left.height + (if grew then 1 else 0)) node.old.value.right.height + 1 + (if result then 1 else 0) }
+    ensures sound { IsSound S.keeps node.new.value }
+{
+    grew && mend_right(node)
+}
+
+/// Mends a node from whose left side a hole of `gone` pages went, and a level too where `lower`. It says whether the node
+/// has lost a level.
+#[inline(always)]
+fn shrunk_left<S: Side>(node: &mut Box<Node<S>>, gone: u32, lower: bool) -> bool
+    requires lean { Leans node.old.value.lean (node.old.value.left.height + (if lower then 1 else 0)) node.old.value.right.height }
+    requires left { IsLow node.old.value.left }
+    requires right { IsLow node.old.value.right }
+    requires of_left { node.old.value.of_left ≡ S.keeps (max gone (longest node.old.value.left.spans)) }
+    requires of_right { node.old.value.of_right ≡ S.keeps (longest node.old.value.right.spans) }
+    ensures spans { spans_of node.new.value ≡ spans_of node.old.value }
+    ensures height { max (node.old.value.left.height + (if lower then 1 else 0)) node.old.value.right.height + 1 ≡ height_of node.new.value + (if result then 1 else 0) }
+    ensures sound { IsSound S.keeps node.new.value }
+{
+    let root = &mut **node;
+    if root.of_left.may_lose(gone) {
+        root.of_left = root.left.kept();
+    }
+    lower && !mend_right(node)
+}
+
+/// The same, where it went from the right side.
+#[inline(always)]
+fn shrunk_right<S: Side>(node: &mut Box<Node<S>>, gone: u32, lower: bool) -> bool
+    requires lean { Leans node.old.value.lean node.old.value.left.height (node.old.value.right.height + (if lower then 1 else 0)) }
+    requires left { IsLow node.old.value.left }
+    requires right { IsLow node.old.value.right }
+    requires of_left { node.old.value.of_left ≡ S.keeps (longest node.old.value.left.spans) }
+    requires of_right { node.old.value.of_right ≡ S.keeps (max gone (longest node.old.value.right.spans)) }
+    ensures spans { spans_of node.new.value ≡ spans_of node.old.value }
+    ensures height { max node.old.value.left.height (node.old.value.right.height + (if lower then 1 else 0)) + 1 ≡ height_of node.new.value + (if result then 1 else 0) }
+    ensures sound { IsSound S.keeps node.new.value }
+{
+    let root = &mut **node;
+    if root.of_right.may_lose(gone) {
+        root.of_right = root.right.kept();
+    }
+    lower && !mend_left(node)
+}
+
 /// Mends a node whose left side has grown by a level, and says whether the node has grown too. It mends one whose right
 /// side has lost a level as well: that node has lost one where this says that it hasn't grown.
 #[inline(always)]
-fn grown_left<S: Side>(node: &mut Box<Node<S>>) -> bool
+fn mend_left<S: Side>(node: &mut Box<Node<S>>) -> bool
     requires grown { Leans node.old.value.lean node.old.value.left.height (node.old.value.right.height + 1) }
     requires sides { HasSides S.keeps node.old.value }
     ensures spans { spans_of node.new.value ≡ spans_of node.old.value }
@@ -413,7 +468,7 @@ fn grown_left<S: Side>(node: &mut Box<Node<S>>) -> bool
 
 /// The same, where the right side has grown.
 #[inline(always)]
-fn grown_right<S: Side>(node: &mut Box<Node<S>>) -> bool
+fn mend_right<S: Side>(node: &mut Box<Node<S>>) -> bool
     requires grown { Leans node.old.value.lean (node.old.value.left.height + 1) node.old.value.right.height }
     requires sides { HasSides S.keeps node.old.value }
     ensures spans { spans_of node.new.value ≡ spans_of node.old.value }
@@ -445,7 +500,9 @@ fn turn_right<S: Side>(node: &mut Box<Node<S>>) -> bool
     let mut low = node.left.detach();
     let lower = match low.lean {
         Lean::Right => {
-            turn_twice_right(node, low);
+            let mut middle = low.right.detach();
+            mem::swap(node, &mut middle);
+            part(node, low, middle);
             return true;
         }
         Lean::Even => {
@@ -458,38 +515,9 @@ fn turn_right<S: Side>(node: &mut Box<Node<S>>) -> bool
             true
         }
     };
-    mem::swap(&mut node.left, &mut low.right);
-    node.of_left = low.of_right;
-    low.of_right = node.kept();
     mem::swap(node, &mut low);
-    node.right = Tree::of(low);
+    hang_right(node, low);
     lower
-}
-
-/// The same, where the inner side of the higher one, which was taken off, is higher.
-fn turn_twice_right<S: Side>(node: &mut Box<Node<S>>, mut low: Box<Node<S>>)
-    requires off { node.old.value.left ≡ no_shape }
-    requires sound { IsSound S.keeps low.value }
-    requires lean { low.value.lean ≡ Right }
-    requires higher { height_of low.value ≡ node.old.value.right.height + 2 }
-    requires right { IsLow node.old.value.right }
-    requires of_right { node.old.value.of_right ≡ S.keeps (longest node.old.value.right.spans) }
-    ensures spans { spans_of node.new.value ≡ spans_of low.value ++ node.old.value.hole ∷ node.old.value.right.spans }
-    ensures height { height_of node.new.value ≡ height_of low.value }
-    ensures sound { IsSound S.keeps node.new.value }
-{
-    let mut middle = low.right.detach();
-    mem::swap(&mut low.right, &mut middle.left);
-    mem::swap(&mut node.left, &mut middle.right);
-    low.of_right = middle.of_left;
-    node.of_left = middle.of_right;
-    middle.of_left = low.kept();
-    middle.of_right = node.kept();
-    (low.lean, node.lean) = middle.lean.parted();
-    middle.lean = Lean::Even;
-    mem::swap(node, &mut middle);
-    node.left = Tree::of(low);
-    node.right = Tree::of(middle);
 }
 
 /// The same, where the right side is two levels higher.
@@ -504,7 +532,9 @@ fn turn_left<S: Side>(node: &mut Box<Node<S>>) -> bool
     let mut high = node.right.detach();
     let lower = match high.lean {
         Lean::Left => {
-            turn_twice_left(node, high);
+            let mut middle = high.left.detach();
+            mem::swap(node, &mut middle);
+            part(node, middle, high);
             return true;
         }
         Lean::Even => {
@@ -517,36 +547,73 @@ fn turn_left<S: Side>(node: &mut Box<Node<S>>) -> bool
             true
         }
     };
-    mem::swap(&mut node.right, &mut high.left);
-    node.of_right = high.of_left;
-    high.of_left = node.kept();
     mem::swap(node, &mut high);
-    node.left = Tree::of(high);
+    hang_left(node, high);
     lower
 }
 
-/// The same, where the inner side of the higher one, which was taken off, is higher.
-fn turn_twice_left<S: Side>(node: &mut Box<Node<S>>, mut high: Box<Node<S>>)
-    requires off { node.old.value.right ≡ no_shape }
-    requires sound { IsSound S.keeps high.value }
-    requires lean { high.value.lean ≡ Left }
-    requires higher { height_of high.value ≡ node.old.value.left.height + 2 }
-    requires left { IsLow node.old.value.left }
-    requires of_left { node.old.value.of_left ≡ S.keeps (longest node.old.value.left.spans) }
-    ensures spans { spans_of node.new.value ≡ node.old.value.left.spans ++ node.old.value.hole ∷ spans_of high.value }
-    ensures height { height_of node.new.value ≡ height_of high.value }
-    ensures sound { IsSound S.keeps node.new.value }
+/// Hangs `low` and `high` on both sides of a node, whose own sides go to them.
+#[inline(always)]
+fn part<S: Side>(node: &mut Node<S>, mut low: Box<Node<S>>, mut high: Box<Node<S>>)
+    requires sound { IsSound S.keeps node.old }
+    requires low_off { low.value.right ≡ no_shape }
+    requires low_left { IsLow low.value.left }
+    requires low_of_left { low.value.of_left ≡ S.keeps (longest low.value.left.spans) }
+    requires low_height { low.value.left.height ≡ max node.old.left.height node.old.right.height }
+    requires high_off { high.value.left ≡ no_shape }
+    requires high_right { IsLow high.value.right }
+    requires high_of_right { high.value.of_right ≡ S.keeps (longest high.value.right.spans) }
+    requires high_height { high.value.right.height ≡ max node.old.left.height node.old.right.height }
+    ensures spans { spans_of node.new ≡ (low.value.left.spans ++ low.value.hole ∷ node.old.left.spans) ++ node.old.hole ∷ (node.old.right.spans ++ high.value.hole ∷ high.value.right.spans) }
+    ensures height { height_of node.new ≡ height_of node.old + 1 }
+    ensures sound { IsSound S.keeps node.new }
 {
-    let mut middle = high.left.detach();
-    mem::swap(&mut high.left, &mut middle.right);
-    mem::swap(&mut node.right, &mut middle.left);
-    high.of_left = middle.of_right;
-    node.of_right = middle.of_left;
-    middle.of_right = high.kept();
-    middle.of_left = node.kept();
-    (node.lean, high.lean) = middle.lean.parted();
-    middle.lean = Lean::Even;
-    mem::swap(node, &mut middle);
-    node.right = Tree::of(high);
-    node.left = Tree::of(middle);
+    (low.lean, high.lean) = node.lean.parted();
+    node.lean = Lean::Even;
+    hang_left(node, low);
+    hang_right(node, high);
+}
+
+/// Hangs a node on the left of another, whose left side goes to its right.
+#[inline(always)]
+fn hang_left<S: Side>(root: &mut Node<S>, mut below: Box<Node<S>>)
+    requires off { below.value.right ≡ no_shape }
+    requires sides { HasSides S.keeps root.old }
+    requires left { IsLow below.value.left }
+    requires of_left { below.value.of_left ≡ S.keeps (longest below.value.left.spans) }
+    requires lean { Leans below.value.lean below.value.left.height root.old.left.height }
+    ensures spans { root.new.left.spans ≡ below.value.left.spans ++ below.value.hole ∷ root.old.left.spans }
+    ensures height { root.new.left.height ≡ max below.value.left.height root.old.left.height + 1 }
+    ensures hole { root.new.hole ≡ root.old.hole }
+    ensures right { root.new.right ≡ root.old.right }
+    ensures lean { root.new.lean ≡ root.old.lean }
+    ensures sides { HasSides S.keeps root.new }
+{
+    let side = &mut *below;
+    mem::swap(&mut root.left, &mut side.right);
+    side.of_right = root.of_left;
+    root.of_left = side.kept();
+    root.left = Tree::of(below);
+}
+
+/// Hangs a node on the right of another, whose right side goes to its left.
+#[inline(always)]
+fn hang_right<S: Side>(root: &mut Node<S>, mut below: Box<Node<S>>)
+    requires off { below.value.left ≡ no_shape }
+    requires sides { HasSides S.keeps root.old }
+    requires right { IsLow below.value.right }
+    requires of_right { below.value.of_right ≡ S.keeps (longest below.value.right.spans) }
+    requires lean { Leans below.value.lean root.old.right.height below.value.right.height }
+    ensures spans { root.new.right.spans ≡ root.old.right.spans ++ below.value.hole ∷ below.value.right.spans }
+    ensures height { root.new.right.height ≡ max root.old.right.height below.value.right.height + 1 }
+    ensures hole { root.new.hole ≡ root.old.hole }
+    ensures left { root.new.left ≡ root.old.left }
+    ensures lean { root.new.lean ≡ root.old.lean }
+    ensures sides { HasSides S.keeps root.new }
+{
+    let side = &mut *below;
+    mem::swap(&mut root.right, &mut side.left);
+    side.of_left = root.of_right;
+    root.of_right = side.kept();
+    root.right = Tree::of(below);
 }
