@@ -1,5 +1,5 @@
 -- The words of a kind with readable values are read.
-use Rattle.std.proofs.Common.{◌≡◌, true, [], ◌∷◌, ◌++◌, Some, refl, ap}
+use Rattle.std.proofs.Common.{◌≡◌, true, [], ◌∷◌, ◌++◌, Some, refl, ap, ◌∙◌}
 use Rattle.std.specs.Prelude.{◌&&◌, codes, decimal}
 use Rattle.std.specs.List.{list_all}
 use Rattle.journal_model.specs.declared.script.Script.{Script}
@@ -16,7 +16,7 @@ use Rattle.law_legal.proofs.law_items.Tests.{both}
 use Rattle.law_legal.proofs.law_script.AgainLaws.{bytes_again}
 use Rattle.law_legal.proofs.law_script.WordLaws.{mem_again}
 use Rattle.law_legal.proofs.law_script.NamesAgain.{IsNamed, known_again}
-use Rattle.entry_reader.specs.EntryReading.{deny_of, dry_of, engine_of, kind_of, left_of, list_of, on_buffer, piece_of, span_of, u32_of, u64_of, why_of}
+use Rattle.entry_reader.specs.EntryReading.{deny_of, dry_of, engine_of, kind_of, left_of, list_of, on_buffer, on_worded, piece_of, span_of, u32_of, u64_of, why_of}
 use Rattle.entry_reader.proofs.Wholes.{four_made, one_made, three_made, two_made}
 use Rattle.entry_reader.proofs.WordLaws.{deny_again, engine_again, left_again, piece_again, spans_again, u32_again, u64_again, why_again}
 use Rattle.entry_reader.proofs.CauseLaws.{dry_again}
@@ -29,16 +29,17 @@ kind_again script is named (kind.Ticket s) h =
 kind_again script is named (kind.Reserve b) h = ap (on_buffer (codes "reserve")) (known_again script b named h)
 kind_again script is named (kind.Backoff b s) h =
     let f1 = both ((is_declared script b)) (is_u64 s.0) h in
-    two_made (λ x0 x1. kind.Backoff x0 (record { 0 = x1 })) (known (names_of script.buffers) (name_of script b)) (u64_of (decimal s.0)) b s.0 (known_again script b named f1.0) (u64_again s.0 f1.1)
+    ap (λ o. on_worded (codes "backoff") o (decimal s.0)) (known_again script b named f1.0)
+    ∙ one_made (λ x0. kind.Backoff b (record { 0 = x0 })) (u64_of (decimal s.0)) s.0 (u64_again s.0 f1.1)
 kind_again script is named (kind.New b) h = ap (on_buffer (codes "new")) (known_again script b named h)
 kind_again script is named (kind.Free b g) h =
     let f1 = both ((is_declared script b)) (is_u64 g) h in
-    two_made (λ x0 x1. kind.Free x0 x1) (known (names_of script.buffers) (name_of script b)) (u64_of (decimal g)) b g (known_again script b named f1.0) (u64_again g f1.1)
+    ap (λ o. on_worded (codes "free") o (decimal g)) (known_again script b named f1.0) ∙ one_made (λ x0. kind.Free b x0) (u64_of (decimal g)) g (u64_again g f1.1)
 kind_again script is named (kind.Take b mem spans) h =
     let f1 = both ((is_declared script b)) (list_all is_span spans) h in
     three_made (λ x0 x1 x2. kind.Take x0 x1 x2) (known (names_of script.buffers) (name_of script b)) (mem_of (mem_word mem)) (list_of span_of (spans_word spans)) b mem spans (known_again script b named f1.0) (mem_again mem) (spans_again spans f1.1)
 kind_again script is named (kind.Untake b mem) h =
-    two_made (λ x0 x1. kind.Untake x0 x1) (known (names_of script.buffers) (name_of script b)) (mem_of (mem_word mem)) b mem (known_again script b named h) (mem_again mem)
+    ap (λ o. on_worded (codes "untake") o (mem_word mem)) (known_again script b named h) ∙ one_made (λ x0. kind.Untake b x0) (mem_of (mem_word mem)) mem (mem_again mem)
 kind_again script is named (kind.Populate b page f) h =
     let f2 = both ((is_declared script b) && (is_u32 page)) (is_u32 f) h in
     let f1 = both ((is_declared script b)) (is_u32 page) f2.0 in
@@ -56,7 +57,7 @@ kind_again script is named (kind.Move b mem n l) h =
     let f1 = both ((is_declared script b)) (is_u64 n) f2.0 in
     four_made (λ x0 x1 x2 x3. kind.Move x0 x1 x2 x3) (known (names_of script.buffers) (name_of script b)) (mem_of (mem_word mem)) (u64_of (decimal n)) (left_of (left_word l)) b mem n l (known_again script b named f1.0) (mem_again mem) (u64_again n f1.1) (left_again l f2.1)
 kind_again script is named (kind.Catch b w) h =
-    two_made (λ x0 x1. kind.Catch x0 x1) (known (names_of script.buffers) (name_of script b)) (why_of (why_word w)) b w (known_again script b named h) (why_again w)
+    ap (λ o. on_worded (codes "catch") o (why_word w)) (known_again script b named h) ∙ one_made (λ x0. kind.Catch b x0) (why_of (why_word w)) w (why_again w)
 kind_again script is named (kind.Loose b) h = ap (on_buffer (codes "loose")) (known_again script b named h)
 kind_again script is named (kind.Skip b) h = ap (on_buffer (codes "skip")) (known_again script b named h)
 kind_again script is named (kind.Dry b k w) h =

@@ -14,7 +14,7 @@ use Rattle.journal_model.specs.scripts.Readable.{are_bytes, is_dry_why, is_kind,
 use Rattle.journal_model.specs.scripts.Reading.{bytes_in_hex, known, mem_of, names_of}
 use Rattle.law_legal.proofs.law_items.Tests.{joint}
 use Rattle.law_legal.proofs.law_script.WordLaws.{bytes_are}
-use Rattle.entry_reader.specs.EntryReading.{buffer_kind, deny_of, dry_of, engine_of, find_kind, kind_of, kind_of_four, kind_of_one, kind_of_three, kind_of_two, left_of, list_of, on_buffer, page_kind, pair_kind, piece_of, plain_kind, read_kind, span_of, u32_of, u64_of, why_of, with_four, with_three, with_two}
+use Rattle.entry_reader.specs.EntryReading.{buffer_kind, deny_of, dry_of, engine_of, find_kind, kind_of, kind_of_four, kind_of_one, kind_of_three, kind_of_two, left_of, list_of, on_buffer, on_worded, page_kind, pair_kind, piece_of, plain_kind, read_kind, span_of, u32_of, u64_of, why_of, worded_kind, with_four, with_three, with_two}
 use Rattle.entry_reader.proofs.Wholes.{Told, five_words, four_told, four_words, one_told, three_told, three_words, told_if, two_told, two_words}
 use Rattle.entry_reader.proofs.WordLaws.{bytes_told, deny_told, engine_told, known_told, left_told, mem_told, piece_told, spans_told, u32_told, u64_told, why_told}
 use Rattle.entry_reader.proofs.CauseLaws.{dry_told}
@@ -86,39 +86,41 @@ read_told script v a b e =
     (λ f. one_told (λ bytes. kind.Result (shown.Read bytes)) (bytes_in_hex b) P
     (λ bytes p. let t = bytes_told b bytes p in (t.0, three_words e (is_verb a (codes "read") f) t.1))) tt
 
+worded_told : (script : Script) (v a b : Text) (x : BufId) → known (names_of script.buffers) a ≡ Some x → Told (worded_kind v x b) (IsSaid script (v ∷ a ∷ b ∷ []))
+worded_told script v a b x p =
+    let P = IsSaid script (v ∷ a ∷ b ∷ []) in
+    let n = known_told script a x p in
+    (told_if (bytes_eq v (codes "backoff")) (option_map (λ s. kind.Backoff x (record { 0 = s })) (u64_of b)) _ P
+    (λ e. one_told (λ s. kind.Backoff x (record { 0 = s })) (u64_of b) P (λ s q.
+    let t = u64_told b s q in
+    (joint (is_declared script x) (is_u64 s) n.0 t.0, three_words (is_verb v (codes "backoff") e) n.1 t.1)))
+    (told_if (bytes_eq v (codes "free")) (option_map (λ g. kind.Free x g) (u64_of b)) _ P
+    (λ e. one_told (λ g. kind.Free x g) (u64_of b) P (λ g q.
+    let t = u64_told b g q in
+    (joint (is_declared script x) (is_u64 g) n.0 t.0, three_words (is_verb v (codes "free") e) n.1 t.1)))
+    (told_if (bytes_eq v (codes "untake")) (option_map (λ mem. kind.Untake x mem) (mem_of b)) _ P
+    (λ e. one_told (λ mem. kind.Untake x mem) (mem_of b) P (λ mem q. (n.0, three_words (is_verb v (codes "untake") e) n.1 (mem_told b mem q))))
+    (told_if (bytes_eq v (codes "catch")) (option_map (λ w. kind.Catch x w) (why_of b)) None P
+    (λ e. one_told (λ w. kind.Catch x w) (why_of b) P (λ w q. (n.0, three_words (is_verb v (codes "catch") e) n.1 (why_told b w q)))) tt))))
+
+on_worded_told : (script : Script) (v a b : Text) (o : Option BufId) → known (names_of script.buffers) a ≡ o → Told (on_worded v o b) (IsSaid script (v ∷ a ∷ b ∷ []))
+on_worded_told script v a b None p = tt
+on_worded_told script v a b (Some x) p = worded_told script v a b x p
+
 pair_told : (script : Script) (v a b : Text) → Told (pair_kind (names_of script.buffers) v a b) (IsSaid script (v ∷ a ∷ b ∷ []))
 pair_told script v a b =
     let P = IsSaid script (v ∷ a ∷ b ∷ []) in
-    (told_if (bytes_eq v (codes "backoff")) (with_two (λ x0 x1. kind.Backoff x0 (record { 0 = x1 })) (known (names_of script.buffers) a) (u64_of b)) _ P
-    (λ e. two_told (λ x0 x1. kind.Backoff x0 (record { 0 = x1 })) (known (names_of script.buffers) a) (u64_of b) P (λ x0 x1 p0 p1.
-    let t0 = known_told script a x0 p0 in
-    let t1 = u64_told b x1 p1 in
-    (joint (is_declared script x0) (is_u64 x1) t0.0 t1.0, three_words (is_verb v (codes "backoff") e) t0.1 t1.1)))
-    (told_if (bytes_eq v (codes "free")) (with_two (λ x0 x1. kind.Free x0 x1) (known (names_of script.buffers) a) (u64_of b)) _ P
-    (λ e. two_told (λ x0 x1. kind.Free x0 x1) (known (names_of script.buffers) a) (u64_of b) P (λ x0 x1 p0 p1.
-    let t0 = known_told script a x0 p0 in
-    let t1 = u64_told b x1 p1 in
-    (joint (is_declared script x0) (is_u64 x1) t0.0 t1.0, three_words (is_verb v (codes "free") e) t0.1 t1.1)))
-    (told_if (bytes_eq v (codes "untake")) (with_two (λ x0 x1. kind.Untake x0 x1) (known (names_of script.buffers) a) (mem_of b)) _ P
-    (λ e. two_told (λ x0 x1. kind.Untake x0 x1) (known (names_of script.buffers) a) (mem_of b) P (λ x0 x1 p0 p1.
-    let t0 = known_told script a x0 p0 in
-    let t1 = mem_told b x1 p1 in
-    (t0.0, three_words (is_verb v (codes "untake") e) t0.1 t1)))
-    (told_if (bytes_eq v (codes "catch")) (with_two (λ x0 x1. kind.Catch x0 x1) (known (names_of script.buffers) a) (why_of b)) _ P
-    (λ e. two_told (λ x0 x1. kind.Catch x0 x1) (known (names_of script.buffers) a) (why_of b) P (λ x0 x1 p0 p1.
-    let t0 = known_told script a x0 p0 in
-    let t1 = why_told b x1 p1 in
-    (t0.0, three_words (is_verb v (codes "catch") e) t0.1 t1)))
     (told_if (bytes_eq v (codes "arm")) (with_two (λ x0 x1. kind.Arm x0 x1) (engine_of a) (u64_of b)) _ P
     (λ e. two_told (λ x0 x1. kind.Arm x0 x1) (engine_of a) (u64_of b) P (λ x0 x1 p0 p1.
     let t0 = engine_told a x0 p0 in
     let t1 = u64_told b x1 p1 in
     (joint (is_u32 x0) (is_u64 x1) t0.0 t1.0, three_words (is_verb v (codes "arm") e) t0.1 t1.1)))
-    (told_if (bytes_eq v (codes "packet")) (with_two (λ x0 x1. kind.Packet x0 x1 []) (u64_of a) (u32_of b)) None P
+    (told_if (bytes_eq v (codes "packet")) (with_two (λ x0 x1. kind.Packet x0 x1 []) (u64_of a) (u32_of b)) (on_worded v (known (names_of script.buffers) a) b) P
     (λ e. two_told (λ x0 x1. kind.Packet x0 x1 []) (u64_of a) (u32_of b) P (λ x0 x1 p0 p1.
     let t0 = u64_told a x0 p0 in
     let t1 = u32_told b x1 p1 in
-    (joint (is_u64 x0 && is_u32 x1) true (joint (is_u64 x0) (is_u32 x1) t0.0 t1.0) refl, three_words (is_verb v (codes "packet") e) t0.1 t1.1))) tt))))))
+    (joint (is_u64 x0 && is_u32 x1) true (joint (is_u64 x0) (is_u32 x1) t0.0 t1.0) refl, three_words (is_verb v (codes "packet") e) t0.1 t1.1)))
+    (on_worded_told script v a b (known (names_of script.buffers) a) refl)))
 
 two_words_told : (script : Script) (v a b : Text) → Told (kind_of_two (names_of script.buffers) v a b) (IsSaid script (v ∷ a ∷ b ∷ []))
 two_words_told script v a b =

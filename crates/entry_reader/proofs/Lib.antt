@@ -10,6 +10,5 @@ pub mod KindsAgain
 pub mod EntryLaws
 pub mod HeadTold
 pub mod ListedWords
-pub mod Picks
 pub mod ReportSteps
 pub mod Verdicts

@@ -199,16 +199,26 @@ read_kind word a = if bytes_eq word (codes "read") then option_map (λ bytes. ki
 abbrev pub packet_of : Text → Text → Option Kind
 packet_of a b = with_two (λ n k. kind.Packet n k []) (u64_of a) (u32_of b)
 
+-- a verb, its buffer, and a word
+abbrev pub worded_kind : Text → BufId → Text → Option Kind
+worded_kind verb b word =
+    if bytes_eq verb (codes "backoff") then option_map (λ s. kind.Backoff b (record { 0 = s })) (u64_of word)
+    else if bytes_eq verb (codes "free") then option_map (λ g. kind.Free b g) (u64_of word)
+    else if bytes_eq verb (codes "untake") then option_map (λ mem. kind.Untake b mem) (mem_of word)
+    else if bytes_eq verb (codes "catch") then option_map (λ w. kind.Catch b w) (why_of word)
+    else None
+
+-- a verb, its buffer, and a word, where the buffer is declared
+abbrev pub on_worded : Text → Option BufId → Text → Option Kind
+on_worded verb None word = None
+on_worded verb (Some b) word = worded_kind verb b word
+
 -- a verb and two words, but for an answer
 abbrev pub pair_kind : List Text → Text → Text → Text → Option Kind
 pair_kind names verb a b =
-    if bytes_eq verb (codes "backoff") then with_two (λ x s. kind.Backoff x (record { 0 = s })) (known names a) (u64_of b)
-    else if bytes_eq verb (codes "free") then with_two (λ x g. kind.Free x g) (known names a) (u64_of b)
-    else if bytes_eq verb (codes "untake") then with_two (λ x mem. kind.Untake x mem) (known names a) (mem_of b)
-    else if bytes_eq verb (codes "catch") then with_two (λ x w. kind.Catch x w) (known names a) (why_of b)
-    else if bytes_eq verb (codes "arm") then with_two (λ e n. kind.Arm e n) (engine_of a) (u64_of b)
+    if bytes_eq verb (codes "arm") then with_two (λ e n. kind.Arm e n) (engine_of a) (u64_of b)
     else if bytes_eq verb (codes "packet") then packet_of a b
-    else None
+    else on_worded verb (known names a) b
 
 -- a verb and two words
 abbrev pub kind_of_two : List Text → Text → Text → Text → Option Kind

@@ -4,7 +4,7 @@ ghost use Rattle.std.specs.Prelude.{◌≡◌, ◌≤◌, IfOk, length, true};
 ghost use Rattle.journal_model.specs.scripts.FirstFault.{ends_line, without_end};
 ghost use Rattle.journal_model.specs.scripts.Reading.{actor_of, names_of};
 ghost use Rattle.journal_model.specs.scripts.ScriptRules.{is_script};
-ghost use Rattle.entry_reader.specs.EntryReading.{entry_of, entry_of_words, is_number};
+ghost use Rattle.entry_reader.specs.EntryReading.{entry_by, entry_of, entry_of_words, is_number, kind_of};
 ghost use Rattle.entry_reader.specs.Read.{IsRead};
 
 use crate::kinds::kind;
@@ -41,6 +41,24 @@ pub(crate) fn is_the_number(n: u64, word: Option<u64>) -> bool
     }
 }
 
+fn entry_by_actor(
+    alloc: Global,
+    names: &Names,
+    who: ActorWord,
+    words: &[Word],
+) -> Result<Option<Entry>, NoMemory>
+    requires { length names.now ≤ 256 }
+    ensures { IfOk result (λ entry. entry ≡ entry_by who (kind_of names.now words.now)) }
+{
+    let ActorWord::Is(who) = who else {
+        return Ok(None);
+    };
+    match kind(alloc, names, words)? {
+        Some(kind) => Ok(Some(Entry { who, kind })),
+        None => Ok(None),
+    }
+}
+
 fn entry_by_words(
     alloc: Global,
     script: &Script,
@@ -58,13 +76,7 @@ fn entry_by_words(
             if !is_the_number(n, number(first.items())) {
                 return Ok(None);
             }
-            let ActorWord::Is(who) = actor_of_script(script, who.items()) else {
-                return Ok(None);
-            };
-            match kind(alloc, names, rest)? {
-                Some(kind) => Ok(Some(Entry { who, kind })),
-                None => Ok(None),
-            }
+            entry_by_actor(alloc, names, actor_of_script(script, who.items()), rest)
         }
         _ => Ok(None),
     }

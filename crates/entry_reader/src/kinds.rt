@@ -1,7 +1,7 @@
 //! The kind of an entry by its words: which verb, and each other word as what must stand there.
 
 ghost use Rattle.std.specs.Prelude.{◌≡◌, ◌≤◌, IfOk, length};
-ghost use Rattle.entry_reader.specs.EntryReading.{buffer_kind, dry_kind, find_kind, kind_of, kind_of_four, kind_of_one, kind_of_three, kind_of_two, later_kind, packet_of, page_kind, pair_kind, plain_kind, probe_of, read_kind, take_of};
+ghost use Rattle.entry_reader.specs.EntryReading.{buffer_kind, dry_kind, find_kind, kind_of, kind_of_four, kind_of_one, kind_of_three, kind_of_two, later_kind, packet_of, page_kind, pair_kind, plain_kind, probe_of, read_kind, take_of, worded_kind};
 
 use crate::numbers::{number, small_number};
 use crate::parts::{deny, dry_why, engine, left, piece, spans, why};
@@ -63,23 +63,37 @@ fn kind_of_one_word(names: &Names, verb: &[u8], a: &[u8]) -> Option<Kind>
     ensures { result ≡ kind_of_one names.now verb.now a.now }
 {
     if is(verb, b"ticket") {
-        Some(Kind::Ticket {
-            s: Stamp(number(a)?),
-        })
+        match number(a) {
+            Some(s) => Some(Kind::Ticket { s: Stamp(s) }),
+            None => None,
+        }
     } else if is(verb, b"done") {
-        Some(Kind::Done { num: number(a)? })
+        match number(a) {
+            Some(num) => Some(Kind::Done { num }),
+            None => None,
+        }
     } else if is(verb, b"reap") {
-        Some(Kind::Reap { g: number(a)? })
+        match number(a) {
+            Some(g) => Some(Kind::Reap { g }),
+            None => None,
+        }
     } else if is(verb, b"bulk") {
-        Some(Kind::Bulk {
-            group: small_number(a)?,
-        })
+        match small_number(a) {
+            Some(group) => Some(Kind::Bulk { group }),
+            None => None,
+        }
     } else if is(verb, b"result") {
         plain_result(a)
     } else if is(verb, b"refused") {
-        Some(Kind::Refused { deny: deny(a)? })
+        match deny(a) {
+            Some(deny) => Some(Kind::Refused { deny }),
+            None => None,
+        }
     } else {
-        kind_of_buffer(verb, names.find(a)?)
+        match names.find(a) {
+            Some(b) => kind_of_buffer(verb, b),
+            None => None,
+        }
     }
 }
 
@@ -102,46 +116,54 @@ fn read_result(alloc: Global, word: &[u8], a: &[u8]) -> Result<Option<Kind>, NoM
 fn packet(alloc: Global, a: &[u8], b: &[u8]) -> Option<Kind>
     ensures { result ≡ packet_of a.now b.now }
 {
-    Some(Kind::Packet {
-        num: number(a)?,
-        k: small_number(b)?,
-        piece: Bytes::new(alloc),
-    })
+    match (number(a), small_number(b)) {
+        (Some(num), Some(k)) => Some(Kind::Packet {
+            num,
+            k,
+            piece: Bytes::new(alloc),
+        }),
+        _ => None,
+    }
+}
+
+fn kind_with_word(verb: &[u8], b: BufId, word: &[u8]) -> Option<Kind>
+    ensures { result ≡ worded_kind verb.now b word.now }
+{
+    if is(verb, b"backoff") {
+        Some(Kind::Backoff {
+            b,
+            s: Stamp(number(word)?),
+        })
+    } else if is(verb, b"free") {
+        Some(Kind::Free {
+            b,
+            g: number(word)?,
+        })
+    } else if is(verb, b"untake") {
+        Some(Kind::Untake {
+            b,
+            mem: memory(word)?,
+        })
+    } else if is(verb, b"catch") {
+        Some(Kind::Catch { b, why: why(word)? })
+    } else {
+        None
+    }
 }
 
 fn kind_of_a_pair(alloc: Global, names: &Names, verb: &[u8], a: &[u8], b: &[u8]) -> Option<Kind>
     requires { length names.now ≤ 256 }
     ensures { result ≡ pair_kind names.now verb.now a.now b.now }
 {
-    if is(verb, b"backoff") {
-        Some(Kind::Backoff {
-            b: names.find(a)?,
-            s: Stamp(number(b)?),
-        })
-    } else if is(verb, b"free") {
-        Some(Kind::Free {
-            b: names.find(a)?,
-            g: number(b)?,
-        })
-    } else if is(verb, b"untake") {
-        Some(Kind::Untake {
-            b: names.find(a)?,
-            mem: memory(b)?,
-        })
-    } else if is(verb, b"catch") {
-        Some(Kind::Catch {
-            b: names.find(a)?,
-            why: why(b)?,
-        })
-    } else if is(verb, b"arm") {
-        Some(Kind::Arm {
-            engine: engine(a)?,
-            num: number(b)?,
-        })
+    if is(verb, b"arm") {
+        match (engine(a), number(b)) {
+            (Some(engine), Some(num)) => Some(Kind::Arm { engine, num }),
+            _ => None,
+        }
     } else if is(verb, b"packet") {
         packet(alloc, a, b)
     } else {
-        None
+        kind_with_word(verb, names.find(a)?, b)
     }
 }
 
@@ -190,10 +212,7 @@ fn take(
     requires { length names.now ≤ 256 }
     ensures { IfOk result (λ kind. kind ≡ take_of names.now a.now b.now c.now) }
 {
-    let Some(buffer) = names.find(a) else {
-        return Ok(None);
-    };
-    let Some(mem) = memory(b) else {
+    let (Some(buffer), Some(mem)) = (names.find(a), memory(b)) else {
         return Ok(None);
     };
     match spans(alloc, c)? {
@@ -210,10 +229,7 @@ fn dry(alloc: Global, names: &Names, a: &[u8], b: &[u8], c: &[u8]) -> Result<Opt
     requires { length names.now ≤ 256 }
     ensures { IfOk result (λ kind. kind ≡ dry_kind names.now a.now b.now c.now) }
 {
-    let Some(buffer) = names.find(a) else {
-        return Ok(None);
-    };
-    let Some(k) = small_number(b) else {
+    let (Some(buffer), Some(k)) = (names.find(a), small_number(b)) else {
         return Ok(None);
     };
     match dry_why(alloc, names, c)? {
@@ -225,10 +241,7 @@ fn dry(alloc: Global, names: &Names, a: &[u8], b: &[u8], c: &[u8]) -> Result<Opt
 fn probe(alloc: Global, a: &[u8], b: &[u8], c: &[u8]) -> Result<Option<Kind>, NoMemory>
     ensures { IfOk result (λ kind. kind ≡ probe_of a.now b.now c.now) }
 {
-    let Some(num) = number(a) else {
-        return Ok(None);
-    };
-    let Some(k) = small_number(b) else {
+    let (Some(num), Some(k)) = (number(a), small_number(b)) else {
         return Ok(None);
     };
     match piece(alloc, c)? {
@@ -241,17 +254,21 @@ fn kind_of_pages(names: &Names, verb: &[u8], a: &[u8], b: &[u8], c: &[u8]) -> Op
     requires { length names.now ≤ 256 }
     ensures { result ≡ page_kind names.now verb.now a.now b.now c.now }
 {
+    let parts = (names.find(a), small_number(b), small_number(c));
+    let (Some(b), Some(page), Some(place)) = parts else {
+        return None;
+    };
     if is(verb, b"populate") {
         Some(Kind::Populate {
-            b: names.find(a)?,
-            page: small_number(b)?,
-            frame: small_number(c)?,
+            b,
+            page,
+            frame: place,
         })
     } else if is(verb, b"swapout") {
         Some(Kind::SwapOut {
-            b: names.find(a)?,
-            page: small_number(b)?,
-            slot: small_number(c)?,
+            b,
+            page,
+            slot: place,
         })
     } else {
         None
@@ -296,19 +313,21 @@ fn kind_of_four_words(
     ensures { result ≡ kind_of_four names.now verb.now a.now b.now c.now d.now }
 {
     if is(verb, b"swapin") {
-        Some(Kind::SwapIn {
-            b: names.find(a)?,
-            page: small_number(b)?,
-            slot: small_number(c)?,
-            frame: small_number(d)?,
-        })
+        let places = (small_number(b), small_number(c), small_number(d));
+        match (names.find(a), places) {
+            (Some(b), (Some(page), Some(slot), Some(frame))) => Some(Kind::SwapIn {
+                b,
+                page,
+                slot,
+                frame,
+            }),
+            _ => None,
+        }
     } else if is(verb, b"move") {
-        Some(Kind::Move {
-            b: names.find(a)?,
-            mem: memory(b)?,
-            num: number(c)?,
-            left: left(d)?,
-        })
+        match (names.find(a), memory(b), number(c), left(d)) {
+            (Some(b), Some(mem), Some(num), Some(left)) => Some(Kind::Move { b, mem, num, left }),
+            _ => None,
+        }
     } else {
         None
     }

@@ -1,7 +1,7 @@
 //! The words of an entry: why, what is left, causes, spans and pieces.
 
-ghost use Rattle.std.specs.Prelude.{◌≡◌, ◌≤◌, IfOk, length};
-ghost use Rattle.entry_reader.specs.EntryReading.{all_of, cause_of, deny_of, deny_of_buffer, dry_of, engine_of, left_of, list_of, piece_of, reserved_of, row_of, row_parts, span_between, span_of, span_parts, span_with, why_of};
+ghost use Rattle.std.specs.Prelude.{◌≡◌, ◌≤◌, [], IfOk, None, Some, if◌then◌else◌, length};
+ghost use Rattle.entry_reader.specs.EntryReading.{all_of, cause_of, deny_of, deny_of_buffer, dry_of, engine_of, left_of, list_of, piece_of, reserved_of, row_of, row_parts, row_with, span_of, span_parts, span_with, why_of, with_two};
 
 use crate::numbers::{number, small_number};
 use journal_model::{Bytes, Cause, CauseRow, Causes, DryWhy, Left, Why};
@@ -9,7 +9,7 @@ use script_words::cut::{Word, Words, cut, cut_into};
 use script_words::names::Names;
 use script_words::words::{bytes, is};
 use std::alloc::Global;
-use ttm_base::{Deny, NoMemory, Span, Spans, Stamp};
+use ttm_base::{BufId, Deny, NoMemory, Span, Spans, Stamp};
 
 pub(crate) fn why(word: &[u8]) -> Option<Why>
     ensures { result ≡ why_of word.now }
@@ -91,13 +91,12 @@ pub(crate) fn piece(alloc: Global, word: &[u8]) -> Result<Option<Bytes>, NoMemor
 
 // ---- spans
 
-fn span_between_pages(start: u32, end: u32) -> Option<Span>
-    ensures { result ≡ span_between start end }
+fn span_between_pages(start: Option<u32>, end: Option<u32>) -> Option<Span>
+    ensures { result ≡ span_with start end }
 {
-    if start < end {
-        Some(Span { start, end })
-    } else {
-        None
+    match (start, end) {
+        (Some(start), Some(end)) if start < end => Some(Span { start, end }),
+        _ => None,
     }
 }
 
@@ -105,45 +104,46 @@ fn span_of_words(words: &[Word]) -> Option<Span>
     ensures { result ≡ span_parts words.now }
 {
     match words {
-        [first, last] => match (small_number(first.items()), small_number(last.items())) {
-            (Some(first), Some(last)) => span_between_pages(first, last),
-            _ => None,
-        },
+        [first, last] => {
+            span_between_pages(small_number(first.items()), small_number(last.items()))
+        }
         _ => None,
     }
 }
 
-/// Reads a span. The list `words` is left with the parts of the word.
-fn span<'a>(words: &mut Words<'a>, word: &'a [u8]) -> Result<Option<Span>, NoMemory>
-    ensures { IfOk result (λ span. span ≡ span_of word.now) }
+/// Reads the span of each of `words` into `spans`, and returns false where one tells none. The list `parts` is left with the parts of a word.
+fn read_spans<'a>(
+    parts: &mut Words<'a>,
+    spans: &mut Spans,
+    words: &'a [Word],
+) -> Result<bool, NoMemory>
+    requires { spans.old ≡ [] }
+    ensures { IfOk result (λ all. (if all then Some spans.new else None) ≡ all_of span_of words.now) }
 {
-    cut_into(words, b'-', word)?;
-    Ok(span_of_words(words.items()))
-}
-
-fn spans_of_words(alloc: Global, words: &[Word]) -> Result<Option<Spans>, NoMemory>
-    ensures { IfOk result (λ spans. spans ≡ all_of span_of words.now) }
-{
-    let mut parts = Words::new(alloc);
-    let mut spans = Spans::new(alloc);
     for word in words {
-        match span(&mut parts, word.items())? {
+        cut_into(parts, b'-', word.items())?;
+        match span_of_words(parts.items()) {
             Some(span) => spans.push(span)?,
-            None => return Ok(None),
+            None => return Ok(false),
         }
     }
-    Ok(Some(spans))
+    Ok(true)
 }
 
 /// Reads spans with a comma between each two, or a dash for none.
 pub(crate) fn spans(alloc: Global, word: &[u8]) -> Result<Option<Spans>, NoMemory>
     ensures { IfOk result (λ spans. spans ≡ list_of span_of word.now) }
 {
+    let mut spans = Spans::new(alloc);
     if is(word, b"-") {
-        return Ok(Some(Spans::new(alloc)));
+        return Ok(Some(spans));
     }
     let words = cut(alloc, b',', word)?;
-    spans_of_words(alloc, words.items())
+    let mut parts = Words::new(alloc);
+    if read_spans(&mut parts, &mut spans, words.items())? {
+        return Ok(Some(spans));
+    }
+    Ok(None)
 }
 
 // ---- causes
@@ -174,49 +174,51 @@ fn reserved(word: &[u8], stamp: &[u8]) -> Option<Cause>
     }
 }
 
+fn row_of_parts(b: Option<BufId>, cause: Option<Cause>) -> Option<CauseRow>
+    ensures { result ≡ with_two row_with b cause }
+{
+    match (b, cause) {
+        (Some(b), Some(cause)) => Some(CauseRow { b, cause }),
+        _ => None,
+    }
+}
+
 fn row_of_words(names: &Names, words: &[Word]) -> Option<CauseRow>
     requires { length names.now ≤ 256 }
     ensures { result ≡ row_parts names.now words.now }
 {
     match words {
-        [name, word] => Some(CauseRow {
-            b: names.find(name.items())?,
-            cause: cause(word.items())?,
-        }),
-        [name, word, stamp] => Some(CauseRow {
-            b: names.find(name.items())?,
-            cause: reserved(word.items(), stamp.items())?,
-        }),
+        [name, word] => row_of_parts(names.find(name.items()), cause(word.items())),
+        [name, word, stamp] => {
+            row_of_parts(
+                names.find(name.items()),
+                reserved(word.items(), stamp.items()),
+            )
+        }
         _ => None,
     }
 }
 
-/// Reads a buffer with its cause. The list `words` is left with the parts of the word.
-fn row<'a>(
-    words: &mut Words<'a>,
+/// Reads the buffer with its cause that each of `words` tells into `rows`, and returns false where one tells none. The list `parts` is left
+/// with the parts of a word.
+fn read_rows<'a>(
+    parts: &mut Words<'a>,
+    rows: &mut Causes,
     names: &Names,
-    word: &'a [u8],
-) -> Result<Option<CauseRow>, NoMemory>
-    requires { length names.now ≤ 256 }
-    ensures { IfOk result (λ row. row ≡ row_of names.now word.now) }
+    words: &'a [Word],
+) -> Result<bool, NoMemory>
+    requires few { length names.now ≤ 256 }
+    requires none { rows.old ≡ [] }
+    ensures { IfOk result (λ all. (if all then Some rows.new else None) ≡ all_of (row_of names.now) words.now) }
 {
-    cut_into(words, b':', word)?;
-    Ok(row_of_words(names, words.items()))
-}
-
-fn rows_of_words(alloc: Global, names: &Names, words: &[Word]) -> Result<Option<Causes>, NoMemory>
-    requires { length names.now ≤ 256 }
-    ensures { IfOk result (λ rows. rows ≡ all_of (row_of names.now) words.now) }
-{
-    let mut parts = Words::new(alloc);
-    let mut rows = Causes::new(alloc);
     for word in words {
-        match row(&mut parts, names, word.items())? {
+        cut_into(parts, b':', word.items())?;
+        match row_of_words(names, parts.items()) {
             Some(row) => rows.push(row)?,
-            None => return Ok(None),
+            None => return Ok(false),
         }
     }
-    Ok(Some(rows))
+    Ok(true)
 }
 
 /// Reads buffers with their causes, with a comma between each two, or a dash for none.
@@ -224,11 +226,16 @@ fn rows(alloc: Global, names: &Names, word: &[u8]) -> Result<Option<Causes>, NoM
     requires { length names.now ≤ 256 }
     ensures { IfOk result (λ rows. rows ≡ list_of (row_of names.now) word.now) }
 {
+    let mut rows = Causes::new(alloc);
     if is(word, b"-") {
-        return Ok(Some(Causes::new(alloc)));
+        return Ok(Some(rows));
     }
     let words = cut(alloc, b',', word)?;
-    rows_of_words(alloc, names, words.items())
+    let mut parts = Words::new(alloc);
+    if read_rows(&mut parts, &mut rows, names, words.items())? {
+        return Ok(Some(rows));
+    }
+    Ok(None)
 }
 
 /// Reads why a place is dry.

@@ -179,16 +179,16 @@ pub fn read_report(alloc: Global, script: &Script, text: &[u8]) -> Result<Parsed
     requires { is_script script.now ≡ true }
     ensures { IfOk result (λ parsed. IsParsed script.now text.now parsed) }
 {
-    let names = names_of_script(alloc, script)?;
-    match read_head(alloc, script, text)? {
-        Some(head) => read_entries(alloc, script, &names, head, text),
-        None => Ok(Parsed {
+    let Some(head) = read_head(alloc, script, text)? else {
+        return Ok(Parsed {
             entries: Entries::new(alloc),
             rest: 0,
             bad: Some(ReportBad {
                 entry: 0,
                 rule: Rule::Head,
             }),
-        }),
-    }
+        });
+    };
+    let names = names_of_script(alloc, script)?;
+    read_entries(alloc, script, &names, head, text)
 }

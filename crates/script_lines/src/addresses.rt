@@ -1,6 +1,6 @@
 //! Lines on the address space of a thread, by their words.
 
-ghost use Rattle.std.specs.Prelude.{◌≡◌, ◌≤◌, IfOk, length};
+ghost use Rattle.std.specs.Prelude.{◌≡◌, ◌≤◌, [], IfOk, OnOk, length};
 ghost use Rattle.std.specs.List.{list_any};
 ghost use Rattle.journal_model.specs.scripts.Reading.{address_of, offset_of, byte_in_hex};
 ghost use Rattle.journal_model.specs.scripts.LineWords.{vmap_line, vunmap_line, vop_of, is_no_vop, vop_words_of, vsubmit_of_ops, vsubmit_line};
@@ -40,42 +40,42 @@ pub fn vunmap(words: &[Word]) -> Option<Line>
     }
 }
 
-fn probe(addr: &[u8], len: &[u8]) -> VOpWord
+fn probe(addr: &Word, len: &Word) -> VOpWord
     ensures { result ≡ VOpWord.Probe (address_of addr.now) (offset_of len.now) }
 {
     VOpWord::Probe {
-        addr: address(addr),
-        len: offset(len),
+        addr: address(addr.items()),
+        len: offset(len.items()),
     }
 }
 
-fn fill(addr: &[u8], len: &[u8], value: &[u8]) -> VOpWord
+fn fill(addr: &Word, len: &Word, value: &Word) -> VOpWord
     ensures { result ≡ VOpWord.Fill (address_of addr.now) (offset_of len.now) (byte_in_hex value.now) }
 {
     VOpWord::Fill {
-        addr: address(addr),
-        len: offset(len),
-        byte: byte(value),
+        addr: address(addr.items()),
+        len: offset(len.items()),
+        byte: byte(value.items()),
     }
 }
 
-fn copy(addr: &[u8], from: &[u8], len: &[u8]) -> VOpWord
+fn copy(addr: &Word, from: &Word, len: &Word) -> VOpWord
     ensures { result ≡ VOpWord.Copy (address_of addr.now) (address_of from.now) (offset_of len.now) }
 {
     VOpWord::Copy {
-        addr: address(addr),
-        from: address(from),
-        len: offset(len),
+        addr: address(addr.items()),
+        from: address(from.items()),
+        len: offset(len.items()),
     }
 }
 
-fn xor(addr: &[u8], from: &[u8], len: &[u8]) -> VOpWord
+fn xor(addr: &Word, from: &Word, len: &Word) -> VOpWord
     ensures { result ≡ VOpWord.Xor (address_of addr.now) (address_of from.now) (offset_of len.now) }
 {
     VOpWord::Xor {
-        addr: address(addr),
-        from: address(from),
-        len: offset(len),
+        addr: address(addr.items()),
+        from: address(from.items()),
+        len: offset(len.items()),
     }
 }
 
@@ -86,12 +86,11 @@ fn op(words: &[Word]) -> VOpWord
     match words {
         [w, addr, len] => {
             if is(w.items(), b"probe") {
-                return probe(addr.items(), len.items());
+                return probe(addr, len);
             }
             VOpWord::Malformed
         }
         [w, addr, x, y] => {
-            let (addr, x, y) = (addr.items(), x.items(), y.items());
             if is(w.items(), b"fill") {
                 return fill(addr, x, y);
             }
@@ -119,11 +118,11 @@ fn is_some_no_op(ops: &[VOpWord]) -> bool
     ops.iter().any(|o| is_no_op_word(o))
 }
 
-/// Returns the operations that `words` tell, with a lone semicolon between each two.
-fn ops(alloc: Global, words: &[Word]) -> Result<VOpWords, NoMemory>
-    ensures { IfOk result (λ ops. ops ≡ vop_words_of words.now) }
+/// Puts the operations that `words` tell into `ops`, with a lone semicolon between each two.
+fn read_ops(ops: &mut VOpWords, words: &[Word]) -> Result<(), NoMemory>
+    requires { ops.old ≡ [] }
+    ensures { OnOk result (ops.new ≡ vop_words_of words.now) }
 {
-    let mut ops = VOpWords::new(alloc);
     let mut start = 0;
     for i in 0..words.len() {
         if is_lone_semicolon(&words[i]) {
@@ -131,8 +130,7 @@ fn ops(alloc: Global, words: &[Word]) -> Result<VOpWords, NoMemory>
             start = i + 1;
         }
     }
-    ops.push(op(&words[start..]))?;
-    Ok(ops)
+    ops.push(op(&words[start..]))
 }
 
 fn vsubmit_with(engine: EngineWord, ops: VOpWords) -> Option<Line>
@@ -150,7 +148,8 @@ pub fn vsubmit(alloc: Global, engines: u32, words: &[Word]) -> Result<Option<Lin
 {
     match words {
         [_, number, rest @ ..] => {
-            let ops = ops(alloc, rest)?;
+            let mut ops = VOpWords::new(alloc);
+            read_ops(&mut ops, rest)?;
             Ok(vsubmit_with(engine(engines, number.items()), ops))
         }
         _ => Ok(None),

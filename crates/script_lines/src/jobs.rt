@@ -1,6 +1,6 @@
 //! Jobs by their words.
 
-ghost use Rattle.std.specs.Prelude.{◌≡◌, ◌≤◌, IfOk, length};
+ghost use Rattle.std.specs.Prelude.{◌≡◌, ◌≤◌, [], IfOk, OnOk, length};
 ghost use Rattle.std.specs.List.{list_any};
 ghost use Rattle.journal_model.specs.scripts.Reading.{known, offset_of, byte_in_hex};
 ghost use Rattle.journal_model.specs.scripts.LineWords.{op_of, is_no_op, op_words_of, submit_of_ops, submit_line};
@@ -12,52 +12,52 @@ use script_words::words::{byte, engine, is, is_lone_semicolon, offset};
 use std::alloc::Global;
 use ttm_base::NoMemory;
 
-fn probe(names: &Names, b: &[u8], off: &[u8], len: &[u8]) -> OpWord
+fn probe(names: &Names, b: &Word, off: &Word, len: &Word) -> OpWord
     requires { length names.now ≤ 256 }
     ensures { result ≡ OpWord.Probe (known names.now b.now) (offset_of off.now) (offset_of len.now) }
 {
     OpWord::Probe {
-        src: names.find(b),
-        off: offset(off),
-        len: offset(len),
+        src: names.find(b.items()),
+        off: offset(off.items()),
+        len: offset(len.items()),
     }
 }
 
-fn fill(names: &Names, b: &[u8], off: &[u8], len: &[u8], value: &[u8]) -> OpWord
+fn fill(names: &Names, b: &Word, off: &Word, len: &Word, value: &Word) -> OpWord
     requires { length names.now ≤ 256 }
     ensures { result ≡ OpWord.Fill (known names.now b.now) (offset_of off.now) (offset_of len.now) (byte_in_hex value.now) }
 {
     OpWord::Fill {
-        dst: names.find(b),
-        off: offset(off),
-        len: offset(len),
-        byte: byte(value),
+        dst: names.find(b.items()),
+        off: offset(off.items()),
+        len: offset(len.items()),
+        byte: byte(value.items()),
     }
 }
 
-fn copy(names: &Names, d: &[u8], doff: &[u8], s: &[u8], soff: &[u8], len: &[u8]) -> OpWord
+fn copy(names: &Names, d: &Word, doff: &Word, s: &Word, soff: &Word, len: &Word) -> OpWord
     requires { length names.now ≤ 256 }
     ensures { result ≡ OpWord.Copy (known names.now d.now) (offset_of doff.now) (known names.now s.now) (offset_of soff.now) (offset_of len.now) }
 {
     OpWord::Copy {
-        dst: names.find(d),
-        doff: offset(doff),
-        src: names.find(s),
-        soff: offset(soff),
-        len: offset(len),
+        dst: names.find(d.items()),
+        doff: offset(doff.items()),
+        src: names.find(s.items()),
+        soff: offset(soff.items()),
+        len: offset(len.items()),
     }
 }
 
-fn xor(names: &Names, d: &[u8], doff: &[u8], s: &[u8], soff: &[u8], len: &[u8]) -> OpWord
+fn xor(names: &Names, d: &Word, doff: &Word, s: &Word, soff: &Word, len: &Word) -> OpWord
     requires { length names.now ≤ 256 }
     ensures { result ≡ OpWord.Xor (known names.now d.now) (offset_of doff.now) (known names.now s.now) (offset_of soff.now) (offset_of len.now) }
 {
     OpWord::Xor {
-        dst: names.find(d),
-        doff: offset(doff),
-        src: names.find(s),
-        soff: offset(soff),
-        len: offset(len),
+        dst: names.find(d.items()),
+        doff: offset(doff.items()),
+        src: names.find(s.items()),
+        soff: offset(soff.items()),
+        len: offset(len.items()),
     }
 }
 
@@ -69,23 +69,22 @@ fn op(names: &Names, words: &[Word]) -> OpWord
     match words {
         [w, b, off, len] => {
             if is(w.items(), b"probe") {
-                return probe(names, b.items(), off.items(), len.items());
+                return probe(names, b, off, len);
             }
             OpWord::Malformed
         }
         [w, b, off, len, byte] => {
             if is(w.items(), b"fill") {
-                return fill(names, b.items(), off.items(), len.items(), byte.items());
+                return fill(names, b, off, len, byte);
             }
             OpWord::Malformed
         }
         [w, d, doff, s, soff, len] => {
-            let (d, doff, s, soff) = (d.items(), doff.items(), s.items(), soff.items());
             if is(w.items(), b"copy") {
-                return copy(names, d, doff, s, soff, len.items());
+                return copy(names, d, doff, s, soff, len);
             }
             if is(w.items(), b"xor") {
-                return xor(names, d, doff, s, soff, len.items());
+                return xor(names, d, doff, s, soff, len);
             }
             OpWord::Malformed
         }
@@ -105,12 +104,12 @@ fn is_some_no_op(ops: &[OpWord]) -> bool
     ops.iter().any(|o| is_no_op_word(o))
 }
 
-/// Returns the operations that `words` tell, with a lone semicolon between each two.
-fn ops(alloc: Global, names: &Names, words: &[Word]) -> Result<OpWords, NoMemory>
-    requires { length names.now ≤ 256 }
-    ensures { IfOk result (λ ops. ops ≡ op_words_of names.now words.now) }
+/// Puts the operations that `words` tell into `ops`, with a lone semicolon between each two.
+fn read_ops(ops: &mut OpWords, names: &Names, words: &[Word]) -> Result<(), NoMemory>
+    requires few { length names.now ≤ 256 }
+    requires none { ops.old ≡ [] }
+    ensures { OnOk result (ops.new ≡ op_words_of names.now words.now) }
 {
-    let mut ops = OpWords::new(alloc);
     let mut start = 0;
     for i in 0..words.len() {
         if is_lone_semicolon(&words[i]) {
@@ -118,8 +117,7 @@ fn ops(alloc: Global, names: &Names, words: &[Word]) -> Result<OpWords, NoMemory
             start = i + 1;
         }
     }
-    ops.push(op(names, &words[start..]))?;
-    Ok(ops)
+    ops.push(op(names, &words[start..]))
 }
 
 fn submit_with(engine: EngineWord, ops: OpWords) -> Option<Line>
@@ -143,7 +141,8 @@ pub fn submit(
 {
     match words {
         [_, number, rest @ ..] => {
-            let ops = ops(alloc, names, rest)?;
+            let mut ops = OpWords::new(alloc);
+            read_ops(&mut ops, names, rest)?;
             Ok(submit_with(engine(engines, number.items()), ops))
         }
         _ => Ok(None),

@@ -1,6 +1,6 @@
 //! A line by its words: each word as what must stand there.
 
-ghost use Rattle.std.specs.Prelude.{◌≡◌, ◌≤◌, ◌==◌, IfOk, length, map};
+ghost use Rattle.std.specs.Prelude.{◌≡◌, ◌≤◌, ◌==◌, [], IfOk, OnOk, length, map};
 ghost use Rattle.std.specs.List.{list_any};
 ghost use Rattle.journal_model.specs.scripts.Reading.{names_of, actor_of};
 ghost use Rattle.journal_model.specs.scripts.LineWords.{version_line, vram_line, size_line, alone, is_no_actor, turn_of_actors, turn_line_of, plain_line, write_line, read_parts, read_line, move_line, touch_line, named_line, parts_of, is_empty, line_of};
@@ -101,11 +101,20 @@ fn engines(words: &[Word]) -> Option<Line>
     }
 }
 
-fn alone_of(line: Line, words: &[Word]) -> Option<Line>
-    ensures { result ≡ alone line words.now }
+fn thread(words: &[Word]) -> Option<Line>
+    ensures { result ≡ alone Line.Thread words.now }
 {
     match words {
-        [_] => Some(line),
+        [_] => Some(Line::Thread),
+        _ => None,
+    }
+}
+
+fn end(words: &[Word]) -> Option<Line>
+    ensures { result ≡ alone Line.End words.now }
+{
+    match words {
+        [_] => Some(Line::End),
         _ => None,
     }
 }
@@ -122,19 +131,20 @@ fn is_some_no_actor(actors: &[ActorWord]) -> bool
     actors.iter().any(|a| is_no_actor_word(a))
 }
 
-fn actors_of(
-    alloc: Global,
+/// Puts the actor that each of `words` names at the end of `actors`.
+fn read_actors(
+    actors: &mut ActorWords,
     threads: u32,
     engines: u32,
     words: &[Word],
-) -> Result<ActorWords, NoMemory>
-    ensures { IfOk result (λ actors. actors ≡ map (actor_of threads engines) words.now) }
+) -> Result<(), NoMemory>
+    requires { actors.old ≡ [] }
+    ensures { OnOk result (actors.new ≡ map (actor_of threads engines) words.now) }
 {
-    let mut actors = ActorWords::new(alloc);
     for word in words {
         actors.push(actor(threads, engines, word.items()))?;
     }
-    Ok(actors)
+    Ok(())
 }
 
 fn turn_of(actors: ActorWords) -> Option<Line>
@@ -153,7 +163,11 @@ fn turn(alloc: Global, threads: u32, engines: u32, words: &[Word]) -> Result<Opt
 {
     match words {
         [] => Ok(None),
-        [_, rest @ ..] => Ok(turn_of(actors_of(alloc, threads, engines, rest)?)),
+        [_, rest @ ..] => {
+            let mut actors = ActorWords::new(alloc);
+            read_actors(&mut actors, threads, engines, rest)?;
+            Ok(turn_of(actors))
+        }
     }
 }
 
@@ -287,14 +301,14 @@ fn parts(
         Keyword::Swap => Ok(swap(words)),
         Keyword::Engines => Ok(engines(words)),
         Keyword::Buffer => buffer(alloc, script.version == 2, words),
-        Keyword::Thread => Ok(alone_of(Line::Thread, words)),
+        Keyword::Thread => Ok(thread(words)),
         Keyword::Schedule => turn(
             alloc,
             script.threads.len() as u32,
             script.sizes.engines,
             words,
         ),
-        Keyword::End => Ok(alone_of(Line::End, words)),
+        Keyword::End => Ok(end(words)),
         Keyword::Plain(verb) => Ok(plain(names, verb, words)),
         Keyword::Write(access) => write(alloc, access, names, words),
         Keyword::Read(access) => Ok(read(access, names, words)),

@@ -92,19 +92,11 @@ pub(crate) fn some_address_passes(ops: &[VOpWord]) -> bool
     ops.iter().any(|o| op_passes(o))
 }
 
-fn lacks_op_byte(op: &VOpWord) -> bool
-    ensures { result ≡ lacks_byte_in_vop op.now }
-{
-    match op {
-        VOpWord::Fill { byte, .. } => byte.is_none(),
-        _ => false,
-    }
-}
-
 pub(crate) fn lack_byte_at_address(ops: &[VOpWord]) -> bool
     ensures { result ≡ list_any lacks_byte_in_vop ops.now }
 {
-    ops.iter().any(|o| lacks_op_byte(o))
+    ops.iter()
+        .any(|o| matches!(o, VOpWord::Fill { byte: None, .. }))
 }
 
 fn op_of(word: VOpWord) -> VOp
@@ -175,15 +167,15 @@ fn mention_op(seen: &mut ItemList<BufId>, op: &Op) -> Result<(), NoMemory>
     }
 }
 
-/// Lists each buffer of `ops` once.
-fn mentioned_by(alloc: Global, ops: &[Op]) -> Result<ItemList<BufId>, NoMemory>
-    ensures { IfOk result (λ seen. seen ≡ first_mentions [] (flat_map buffers_of_op ops.now)) }
+/// Puts each buffer of `ops` into `seen` once.
+fn mention_ops(seen: &mut ItemList<BufId>, ops: &[Op]) -> Result<(), NoMemory>
+    requires { seen.old ≡ [] }
+    ensures { OnOk result (seen.new ≡ first_mentions [] (flat_map buffers_of_op ops.now)) }
 {
-    let mut seen = ItemList::new(alloc);
     for op in ops {
-        mention_op(&mut seen, op)?;
+        mention_op(seen, op)?;
     }
-    Ok(seen)
+    Ok(())
 }
 
 /// Returns whether the job by name, of few operations, has more than 16 buffers.
@@ -198,7 +190,8 @@ fn has_many_buffers(
     match thread_mappings.space().job(alloc, ops)? {
         None => Ok(false),
         Some(job) => {
-            let seen = mentioned_by(alloc, job.items())?;
+            let mut seen = ItemList::new(alloc);
+            mention_ops(&mut seen, job.items())?;
             Ok(16 < seen.len())
         }
     }

@@ -32,28 +32,16 @@ fn lacks_head_number(head: &BufferHead) -> bool
     head.pages.is_none() || head.prio.is_none() || head.group.is_none() || head.align.is_none()
 }
 
-fn has_broken_number(place: &PlaceWord) -> bool
-    ensures { result ≡ is_broken_place place.now }
-{
-    matches!(place, PlaceWord::BrokenNumber)
-}
-
 fn has_broken_place(places: &[PlaceWord]) -> bool
     ensures { result ≡ list_any is_broken_place places.now }
 {
-    places.iter().any(|p| has_broken_number(p))
-}
-
-fn has_broken_actor_number(actor: &ActorWord) -> bool
-    ensures { result ≡ is_broken_actor actor.now }
-{
-    matches!(actor, ActorWord::BrokenNumber)
+    places.iter().any(|p| matches!(p, PlaceWord::BrokenNumber))
 }
 
 fn has_broken_actor(actors: &[ActorWord]) -> bool
     ensures { result ≡ list_any is_broken_actor actors.now }
 {
-    actors.iter().any(|a| has_broken_actor_number(a))
+    actors.iter().any(|a| matches!(a, ActorWord::BrokenNumber))
 }
 
 fn has_broken_engine(engine: EngineWord) -> bool
@@ -96,11 +84,11 @@ fn breaks_number(line: &Line) -> bool
     ensures { result ≡ lacks_number line.now }
 {
     match line {
-        Line::Vram { size, .. } => size.is_none(),
-        Line::Tt { size } => size.is_none(),
-        Line::Frames { size } => size.is_none(),
-        Line::Swap { size } => size.is_none(),
-        Line::Engines { size } => size.is_none(),
+        Line::Vram { size, .. }
+        | Line::Tt { size }
+        | Line::Frames { size }
+        | Line::Swap { size }
+        | Line::Engines { size } => size.is_none(),
         Line::Buffer { head, want, busy } => {
             lacks_head_number(head)
                 || has_broken_place(want.items())
@@ -177,30 +165,23 @@ fn breaks_name(names: &Names, script: &Script, line: &Line) -> bool
     ensures { result ≡ lacks_name script.now line.now }
 {
     match line {
-        Line::Buffer { head, .. } => breaks_head_name(names, head),
-        Line::Placed { head, .. } => breaks_head_name(names, head),
-        Line::Plain { b, .. } => b.is_none(),
-        Line::Write { b, .. } => b.is_none(),
-        Line::Read { b, .. } => b.is_none(),
-        Line::Move { b, .. } => b.is_none(),
+        Line::Buffer { head, .. } | Line::Placed { head, .. } => breaks_head_name(names, head),
+        Line::Plain { b, .. }
+        | Line::Write { b, .. }
+        | Line::Read { b, .. }
+        | Line::Move { b, .. }
+        | Line::Map { b }
+        | Line::Unmap { b }
+        | Line::Vmap { b, .. } => b.is_none(),
         Line::Submit { ops, .. } => lack_name(ops.items()),
-        Line::Map { b } => b.is_none(),
-        Line::Unmap { b } => b.is_none(),
-        Line::Vmap { b, .. } => b.is_none(),
         _ => false,
     }
-}
-
-fn is_malformed(place: &PlaceWord) -> bool
-    ensures { result ≡ is_no_place place.now }
-{
-    matches!(place, PlaceWord::Malformed)
 }
 
 fn has_malformed(places: &[PlaceWord]) -> bool
     ensures { result ≡ list_any is_no_place places.now }
 {
-    places.iter().any(|p| is_malformed(p))
+    places.iter().any(|p| matches!(p, PlaceWord::Malformed))
 }
 
 fn breaks_list(most: usize, places: &[PlaceWord]) -> bool
@@ -296,8 +277,8 @@ fn op_passes(script: &Script, op: &OpWord) -> bool
             src,
             soff,
             len,
-        } => { is_wrong_range(script, dst, doff, len) || does_pass(script, src, soff, len) }
-        OpWord::Xor {
+        }
+        | OpWord::Xor {
             dst,
             doff,
             src,
@@ -366,19 +347,11 @@ fn breaks_range(script: &Script, line: &Line) -> bool
     }
 }
 
-fn lacks_op_byte(op: &OpWord) -> bool
-    ensures { result ≡ lacks_byte_in_op op.now }
-{
-    match op {
-        OpWord::Fill { byte, .. } => byte.is_none(),
-        _ => false,
-    }
-}
-
 fn lack_byte(ops: &[OpWord]) -> bool
     ensures { result ≡ list_any lacks_byte_in_op ops.now }
 {
-    ops.iter().any(|o| lacks_op_byte(o))
+    ops.iter()
+        .any(|o| matches!(o, OpWord::Fill { byte: None, .. }))
 }
 
 fn are_bad_bytes(bytes: &Option<Bytes>) -> bool
@@ -462,21 +435,22 @@ fn mention_op(seen: &mut ItemList<BufId>, op: &OpWord) -> Result<(), NoMemory>
     }
 }
 
-/// Lists each buffer of a job once.
-fn mentioned_in(alloc: Global, ops: &[OpWord]) -> Result<ItemList<BufId>, NoMemory>
-    ensures { IfOk result (λ seen. seen ≡ first_mentions [] (flat_map buffers_of_word ops.now)) }
+/// Puts each buffer of the job `ops` into `seen` once.
+fn mention_ops(seen: &mut ItemList<BufId>, ops: &[OpWord]) -> Result<(), NoMemory>
+    requires { seen.old ≡ [] }
+    ensures { OnOk result (seen.new ≡ first_mentions [] (flat_map buffers_of_word ops.now)) }
 {
-    let mut seen = ItemList::new(alloc);
     for op in ops {
-        mention_op(&mut seen, op)?;
+        mention_op(seen, op)?;
     }
-    Ok(seen)
+    Ok(())
 }
 
 fn is_too_big(alloc: Global, ops: &[OpWord]) -> Result<bool, NoMemory>
     ensures { IfOk result (λ big. big ≡ is_big_job ops.now) }
 {
-    let seen = mentioned_in(alloc, ops)?;
+    let mut seen = ItemList::new(alloc);
+    mention_ops(&mut seen, ops)?;
     Ok(64 < ops.len() || 16 < seen.len())
 }
 
@@ -501,16 +475,10 @@ fn breaks_job(
     }
 }
 
-fn is_missing(actor: &ActorWord) -> bool
-    ensures { result ≡ is_missing_actor actor.now }
-{
-    matches!(actor, ActorWord::Missing)
-}
-
 fn has_missing(actors: &[ActorWord]) -> bool
     ensures { result ≡ list_any is_missing_actor actors.now }
 {
-    actors.iter().any(|a| is_missing(a))
+    actors.iter().any(|a| matches!(a, ActorWord::Missing))
 }
 
 fn is_engine_missing(engine: EngineWord) -> bool
@@ -557,10 +525,10 @@ fn len_of(op: &OpWord) -> u32
     ensures { result ≡ len_of_word op.now }
 {
     match *op {
-        OpWord::Fill { len, .. } => len.unwrap_or(0),
-        OpWord::Copy { len, .. } => len.unwrap_or(0),
-        OpWord::Xor { len, .. } => len.unwrap_or(0),
-        OpWord::Probe { len, .. } => len.unwrap_or(0),
+        OpWord::Fill { len, .. }
+        | OpWord::Copy { len, .. }
+        | OpWord::Xor { len, .. }
+        | OpWord::Probe { len, .. } => len.unwrap_or(0),
         OpWord::Malformed => 0,
     }
 }

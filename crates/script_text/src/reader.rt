@@ -3,7 +3,7 @@
 ghost use Rattle.std.specs.Prelude.{◌≡◌, ◌≤◌, ◌<◌, ◌+◌, ◌-◌, bytes_eq, false, not, nat_lt, sum_by, ◌==◌, ◌++◌, ◌∷◌, [], IfOk, OnOk, length, take};
 ghost use Rattle.std.specs.List.{list_any};
 ghost use Rattle.journal_model.specs.scripts.LineWords.{keyword_of};
-ghost use Rattle.journal_model.specs.scripts.FirstFault.{with_sizes, with_buffer, with_command, with_submit, with_line, first_word, after_words, nothing_read, is_behind_end};
+ghost use Rattle.journal_model.specs.scripts.FirstFault.{with_buffer, with_command, with_submit, with_line, first_word, after_words, nothing_read, is_behind_end};
 ghost use Rattle.journal_model.specs.scripts.LineRules.{len_of_word, is_too_long};
 ghost use Rattle.journal_model.specs.rules.Commands.{commands_of};
 ghost use Rattle.journal_model.specs.scripts.MarkRules.{thread_mappings_at_end};
@@ -14,15 +14,16 @@ ghost use Rattle.script_text.specs.Steps.{IsSteady, IsKnown, IsClean, Leads, thr
 
 use crate::marks::{follow, put_access, put_mark_line, put_vsubmit};
 use crate::values::{
-    actors_of, declared, engine_of, first_of, list_of, move_of, ops_of, plain_of, put_command,
-    read_of, touch_of, two_lists_of, write_of, zero_of,
+    declared, engine_of, first_of, move_of, plain_of, push_actors, push_ops, push_places,
+    push_pressed, push_wanted, put_command, read_of, touch_of, write_of, zero_of,
 };
 use journal_model::line::{
     Access, ActorWords, BufferHead, EngineWord, Keyword, Line, OpWord, OpWords, Phase, PlaceWords,
     Progress,
 };
 use journal_model::{
-    Bytes, Command, CommandLists, Commands, Decl, Decls, MarkKind, Marks, Script, Sizes, TurnLines,
+    Bytes, Command, CommandLists, Commands, Decl, Decls, MarkKind, Marks, Ops, Script, Sizes,
+    TurnLine, TurnLines,
 };
 use script_lines::line;
 use script_rules::script_mappings::ThreadMappings;
@@ -32,7 +33,7 @@ use script_words::keywords::{can_come, keyword};
 use script_words::names::Names;
 use std::alloc::Global;
 use ttm_base::limits::MAX_OP_BYTES;
-use ttm_base::{BufId, NoMemory};
+use ttm_base::{BufId, FlaggedPlaces, NoMemory};
 
 /// What the lines so far have declared, and what the thread at work has mapped.
 pub struct Known {
@@ -50,13 +51,6 @@ impl Drop for Known {
     }
 }
 
-fn set_sizes(progress: &mut Progress, next: Phase, sizes: Sizes)
-    ensures { progress.new ≡ with_sizes progress.old next sizes }
-{
-    progress.phase = next;
-    progress.script.sizes = sizes;
-}
-
 fn set_version(progress: &mut Progress, version: u32)
     ensures { progress.new ≡ with_line progress.old (Line.Version version) }
 {
@@ -67,52 +61,37 @@ fn set_version(progress: &mut Progress, version: u32)
 fn set_vram(progress: &mut Progress, buddy: bool, size: Option<u32>)
     ensures { progress.new ≡ with_line progress.old (Line.Vram buddy size) }
 {
-    let sizes = Sizes {
-        buddy,
-        vram: zero_of(size),
-        ..progress.script.sizes
-    };
-    set_sizes(progress, Phase::Tt, sizes);
+    progress.phase = Phase::Tt;
+    progress.script.sizes.buddy = buddy;
+    progress.script.sizes.vram = zero_of(size);
 }
 
 fn set_tt(progress: &mut Progress, size: Option<u32>)
     ensures { progress.new ≡ with_line progress.old (Line.Tt size) }
 {
-    let sizes = Sizes {
-        tt: zero_of(size),
-        ..progress.script.sizes
-    };
-    set_sizes(progress, Phase::Frames, sizes);
+    progress.phase = Phase::Frames;
+    progress.script.sizes.tt = zero_of(size);
 }
 
 fn set_frames(progress: &mut Progress, size: Option<u32>)
     ensures { progress.new ≡ with_line progress.old (Line.Frames size) }
 {
-    let sizes = Sizes {
-        frames: zero_of(size),
-        ..progress.script.sizes
-    };
-    set_sizes(progress, Phase::Swap, sizes);
+    progress.phase = Phase::Swap;
+    progress.script.sizes.frames = zero_of(size);
 }
 
 fn set_swap(progress: &mut Progress, size: Option<u32>)
     ensures { progress.new ≡ with_line progress.old (Line.Swap size) }
 {
-    let sizes = Sizes {
-        swap: zero_of(size),
-        ..progress.script.sizes
-    };
-    set_sizes(progress, Phase::Engines, sizes);
+    progress.phase = Phase::Engines;
+    progress.script.sizes.swap = zero_of(size);
 }
 
 fn set_engines(progress: &mut Progress, size: Option<u32>)
     ensures { progress.new ≡ with_line progress.old (Line.Engines size) }
 {
-    let sizes = Sizes {
-        engines: zero_of(size),
-        ..progress.script.sizes
-    };
-    set_sizes(progress, Phase::Buffers, sizes);
+    progress.phase = Phase::Buffers;
+    progress.script.sizes.engines = zero_of(size);
 }
 
 fn put_buffer(
@@ -173,8 +152,9 @@ fn lens(left: u64, ops: &[OpWord]) -> u64
 fn put_turn(alloc: Global, progress: &mut Progress, actors: ActorWords) -> Result<(), NoMemory>
     ensures { OnOk result (progress.new ≡ with_line progress.old (Line.Turn actors)) }
 {
-    let actors = actors_of(alloc, actors.items())?;
-    progress.script.turns.push(actors)?;
+    let mut turns = TurnLine::new(alloc);
+    push_actors(&mut turns, actors.items())?;
+    progress.script.turns.push(turns)?;
     progress.phase = Phase::Turns;
     Ok(())
 }
@@ -191,9 +171,13 @@ fn put_submit(
     ensures { OnOk result (progress.new ≡ with_line progress.old (Line.Submit engine ops)) }
 {
     let lens = lens(u64::from(MAX_OP_BYTES) - progress.lens, ops.items());
-    let ops = ops_of(alloc, ops.items())?;
-    let engine = engine_of(engine);
-    put_job(progress, Command::Submit { engine, ops }, lens)
+    let mut job = Ops::new(alloc);
+    push_ops(&mut job, ops.items())?;
+    let command = Command::Submit {
+        engine: engine_of(engine),
+        ops: job,
+    };
+    put_job(progress, command, lens)
 }
 
 fn put_two_lists(
@@ -208,7 +192,9 @@ fn put_two_lists(
     ensures ok { OnOk result (progress.new ≡ with_line progress.old (Line.Buffer head want busy)) }
     ensures names { OnOk result (names.new ≡ names.old ++ head.name ∷ []) }
 {
-    let list = two_lists_of(alloc, want.items(), busy.items())?;
+    let mut list = FlaggedPlaces::new(alloc);
+    push_wanted(&mut list, want.items())?;
+    push_pressed(&mut list, busy.items())?;
     put_buffer(alloc, names, progress, declared(head, list))
 }
 
@@ -223,8 +209,9 @@ fn put_one_list(
     ensures ok { OnOk result (progress.new ≡ with_line progress.old (Line.Placed head list)) }
     ensures names { OnOk result (names.new ≡ names.old ++ head.name ∷ []) }
 {
-    let list = list_of(alloc, list.items())?;
-    put_buffer(alloc, names, progress, declared(head, list))
+    let mut places = FlaggedPlaces::new(alloc);
+    push_places(&mut places, list.items())?;
+    put_buffer(alloc, names, progress, declared(head, places))
 }
 
 fn put_write(

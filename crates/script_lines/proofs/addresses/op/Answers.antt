@@ -9,7 +9,7 @@ returns-then-is c =
     let whole : vop_of (c.w-item.result ∷ c.addr-item.result ∷ c.len-item.result ∷ []) ≡ vop_of c.args.words.now =
     ap vop_of (three_are c.args.words.now _ _ _ three c.w-item.is c.addr-item.is c.len-item.is) in
     let is : bytes_eq c.w-item.result (codes "probe") ≡ true = rw (← c.items.ensures) (sym c.is.ensures ∙ c.if-is.true) in
-    rw (c.probe.ensures, c.items-then-is.ensures, c.items-then-is-2.ensures, ← whole, is) refl
+    rw (c.probe.ensures, ← whole, is) refl
 
 pub returns-else-is : goal.returns-else-is
 returns-else-is c =
@@ -25,7 +25,7 @@ returns-then-is-2 c =
     let whole : vop_of (c.w-item-then-words-lt5.result ∷ c.addr-item-then-words-lt5.result ∷ c.x-item.result ∷ c.y-item.result ∷ []) ≡ vop_of c.args.words.now =
     ap vop_of (four_are c.args.words.now _ _ _ _ four c.w-item-then-words-lt5.is c.addr-item-then-words-lt5.is c.x-item.is c.y-item.is) in
     let filled : bytes_eq c.w-item-then-words-lt5.result (codes "fill") ≡ true = rw (← c.items-in-len4.ensures) (sym c.is-in-len4.ensures ∙ c.if-is-2.true) in
-    rw (c.fill.ensures, c.items-addr.ensures, c.items-x.ensures, c.items-y.ensures, ← whole, filled) refl
+    rw (c.fill.ensures, ← whole, filled) refl
 
 pub returns-then-is-3 : goal.returns-then-is-3
 returns-then-is-3 c =
@@ -34,7 +34,7 @@ returns-then-is-3 c =
     ap vop_of (four_are c.args.words.now _ _ _ _ four c.w-item-then-words-lt5.is c.addr-item-then-words-lt5.is c.x-item.is c.y-item.is) in
     let filled : bytes_eq c.w-item-then-words-lt5.result (codes "fill") ≡ false = rw (← c.items-in-len4.ensures) (sym c.is-in-len4.ensures ∙ c.if-is-2.false) in
     let copied : bytes_eq c.w-item-then-words-lt5.result (codes "copy") ≡ true = rw (← c.items-in-len4-2.ensures) (sym c.is-in-len4-2.ensures ∙ c.if-is-3.true) in
-    rw (c.copy.ensures, c.items-addr.ensures, c.items-x.ensures, c.items-y.ensures, ← whole, filled, copied) refl
+    rw (c.copy.ensures, ← whole, filled, copied) refl
 
 pub returns-then-is-4 : goal.returns-then-is-4
 returns-then-is-4 c =
@@ -44,7 +44,7 @@ returns-then-is-4 c =
     let filled : bytes_eq c.w-item-then-words-lt5.result (codes "fill") ≡ false = rw (← c.items-in-len4.ensures) (sym c.is-in-len4.ensures ∙ c.if-is-2.false) in
     let copied : bytes_eq c.w-item-then-words-lt5.result (codes "copy") ≡ false = rw (← c.items-in-len4-2.ensures) (sym c.is-in-len4-2.ensures ∙ c.if-is-3.false) in
     let xored : bytes_eq c.w-item-then-words-lt5.result (codes "xor") ≡ true = rw (← c.items-in-len4-3.ensures) (sym c.is-in-len4-3.ensures ∙ c.if-is-4.true) in
-    rw (c.xor.ensures, c.items-addr.ensures, c.items-x.ensures, c.items-y.ensures, ← whole, filled, copied, xored) refl
+    rw (c.xor.ensures, ← whole, filled, copied, xored) refl
 
 pub returns-else-is-4 : goal.returns-else-is-4
 returns-else-is-4 c =

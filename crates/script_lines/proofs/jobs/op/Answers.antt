@@ -9,7 +9,7 @@ returns-then-is c =
     let whole : op_of c.args.names.now (c.w-item.result ∷ c.b-item.result ∷ c.off-item.result ∷ c.len-item.result ∷ []) ≡ op_of c.args.names.now c.args.words.now =
     ap (op_of c.args.names.now) (four_are c.args.words.now _ _ _ _ four c.w-item.is c.b-item.is c.off-item.is c.len-item.is) in
     let is : bytes_eq c.w-item.result (codes "probe") ≡ true = rw (← c.items.ensures) (sym c.is.ensures ∙ c.if-is.true) in
-    rw (c.probe.ensures, c.items-then-is.ensures, c.items-then-is-2.ensures, c.items-then-is-3.ensures, ← whole, is) refl
+    rw (c.probe.ensures, ← whole, is) refl
 
 pub returns-else-is : goal.returns-else-is
 returns-else-is c =
@@ -25,7 +25,7 @@ returns-then-is-2 c =
     let whole : op_of c.args.names.now (c.w-item-then-words-lt6.result ∷ c.b-item-then-words-lt6.result ∷ c.off-item-then-words-lt6.result ∷ c.len-item-then-words-lt6.result ∷ c.byte-item.result ∷ []) ≡ op_of c.args.names.now c.args.words.now =
     ap (op_of c.args.names.now) (five_are c.args.words.now _ _ _ _ _ five c.w-item-then-words-lt6.is c.b-item-then-words-lt6.is c.off-item-then-words-lt6.is c.len-item-then-words-lt6.is c.byte-item.is) in
     let is : bytes_eq c.w-item-then-words-lt6.result (codes "fill") ≡ true = rw (← c.items-in-len5.ensures) (sym c.is-in-len5.ensures ∙ c.if-is-2.true) in
-    rw (c.fill.ensures, c.items-then-is-2-2.ensures, c.items-then-is-2-3.ensures, c.items-then-is-2-4.ensures, c.items-then-is-2-5.ensures, ← whole, is) refl
+    rw (c.fill.ensures, ← whole, is) refl
 
 pub returns-else-is-2 : goal.returns-else-is-2
 returns-else-is-2 c =
@@ -41,7 +41,7 @@ returns-then-is-3 c =
     let whole : op_of c.args.names.now (c.w-item-then-words-lt7.result ∷ c.d-item.result ∷ c.doff-item.result ∷ c.s-item.result ∷ c.soff-item.result ∷ c.len-item-then-words-lt7.result ∷ []) ≡ op_of c.args.names.now c.args.words.now =
     ap (op_of c.args.names.now) (six_are c.args.words.now _ _ _ _ _ _ six c.w-item-then-words-lt7.is c.d-item.is c.doff-item.is c.s-item.is c.soff-item.is c.len-item-then-words-lt7.is) in
     let copied : bytes_eq c.w-item-then-words-lt7.result (codes "copy") ≡ true = rw (← c.items-in-len6.ensures) (sym c.is-in-len6.ensures ∙ c.if-is-3.true) in
-    rw (c.copy.ensures, c.items-d.ensures, c.items-doff.ensures, c.items-s.ensures, c.items-soff.ensures, c.items-then-is-3-2.ensures, ← whole, copied) refl
+    rw (c.copy.ensures, ← whole, copied) refl
 
 pub returns-then-is-4 : goal.returns-then-is-4
 returns-then-is-4 c =
@@ -50,7 +50,7 @@ returns-then-is-4 c =
     ap (op_of c.args.names.now) (six_are c.args.words.now _ _ _ _ _ _ six c.w-item-then-words-lt7.is c.d-item.is c.doff-item.is c.s-item.is c.soff-item.is c.len-item-then-words-lt7.is) in
     let copied : bytes_eq c.w-item-then-words-lt7.result (codes "copy") ≡ false = rw (← c.items-in-len6.ensures) (sym c.is-in-len6.ensures ∙ c.if-is-3.false) in
     let xored : bytes_eq c.w-item-then-words-lt7.result (codes "xor") ≡ true = rw (← c.items-in-len6-2.ensures) (sym c.is-in-len6-2.ensures ∙ c.if-is-4.true) in
-    rw (c.xor.ensures, c.items-d.ensures, c.items-doff.ensures, c.items-s.ensures, c.items-soff.ensures, c.items-then-is-4.ensures, ← whole, copied, xored) refl
+    rw (c.xor.ensures, ← whole, copied, xored) refl
 
 pub returns-else-is-4 : goal.returns-else-is-4
 returns-else-is-4 c =

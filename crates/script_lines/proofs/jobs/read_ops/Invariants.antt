@@ -2,7 +2,7 @@ use Rattle.std.proofs.Common.{◌≡◌, ◌≤◌, ◌-◌, ◌++◌, map, take
 use Rattle.journal_model.specs.scripts.Cut.{cut_by, is_semicolon}
 use Rattle.journal_model.specs.scripts.LineWords.{op_of, op_words_of}
 use Rattle.script_words.proofs.Cuts.{behind}
-use Rattle.script_lines.proofs.jobs.ops.Given as goal
+use Rattle.script_lines.proofs.jobs.read_ops.Given as goal
 
 abbrev pub invariant-loop-i : goal.invariant-loop-i
 invariant-loop-i l =

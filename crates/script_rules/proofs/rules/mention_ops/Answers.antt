@@ -4,7 +4,7 @@ use Rattle.std.specs.Prelude.{fold, flat_map}
 use Rattle.script_rules.specs.Mentions.{mentioned}
 use Rattle.journal_model.specs.scripts.LineRules.{buffers_of_word}
 use Rattle.script_rules.proofs.MentionLaws.{gathered_all}
-use Rattle.script_rules.proofs.rules.mentioned_in.Goals as goal
+use Rattle.script_rules.proofs.rules.mention_ops.Goals as goal
 
 pub returns : goal.returns
 returns c =

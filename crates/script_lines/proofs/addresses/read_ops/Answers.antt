@@ -2,15 +2,15 @@ use Rattle.std.proofs.Common.{◌≡◌, ◌<◌, true, false, length, get_or, s
 use Rattle.journal_model.specs.scripts.Cut.{is_semicolon}
 use Rattle.journal_model.specs.scripts.LineWords.{vop_of}
 use Rattle.script_words.proofs.Cuts.{behind-nil, group_hit, group_miss}
-use Rattle.script_lines.proofs.addresses.ops.Goals as goal
-use Rattle.script_lines.proofs.addresses.ops.Goals.{then-is_lone_semicolon+in_ok-push, else-is_lone_semicolon}
+use Rattle.script_lines.proofs.addresses.read_ops.Goals as goal
+use Rattle.script_lines.proofs.addresses.read_ops.Goals.{then-is_lone_semicolon+in_ok-push, else-is_lone_semicolon}
 
 pub loop-i-init : goal.loop-i-init
 loop-i-init c =
     record {
       order = omega arith;
       within = omega arith;
-      so_far = rw c.new-ops.ensures (ap (map vop_of) (behind-nil is_semicolon c.args.words.now));
+      so_far = rw c.requires (ap (map vop_of) (behind-nil is_semicolon c.args.words.now));
     }
 
 pub loop-i-preserved : goal.loop-i-preserved
