@@ -6,10 +6,11 @@ ghost use Rattle.journal_model.specs.rules.Lists.{touched};
 ghost use Rattle.rules_state.specs.rules_parts.Pins.{HasPinsLeft};
 ghost use Rattle.rules_apply.specs.Ready.{IsThread, CanShowResult};
 
+use crate::moves::ghost_of;
 use journal_model::{
     BufIds, Buffer, Command, Core, Ghost, Lists, Reservation, Reservations, Script, State,
 };
-use rules_holds::{spans_in, unfinished_before_write};
+use rules_holds::unfinished_before_write;
 use rules_state::rules_parts::buffers::put_item;
 use rules_state::rules_parts::lists::{listed_in, members_last, taken_off, touched_all};
 use rules_state::rules_parts::reservations::{change_pins, release_all};
@@ -19,7 +20,7 @@ use rules_state::{
 };
 use state_words::named_in;
 use std::alloc::Global;
-use ttm_base::{BufId, Mem, NoMemory, Spans};
+use ttm_base::{BufId, Mem, NoMemory};
 
 /// Makes buffer `b` for the thread numbered `thread`. Without memory it leaves `state` as it was.
 pub fn make(
@@ -47,17 +48,9 @@ pub fn make(
 fn ghost_of_freed(alloc: Global, core: &Core, buffer: &Buffer, num: u64) -> Result<Ghost, NoMemory>
     ensures { IfOk result (λ left. left ≡ rows.ghost_of_freed core.now buffer.now num) }
 {
-    let vram = Spans::from_slice(alloc, spans_in(Mem::Vram, buffer))?;
-    let tt = Spans::from_slice(alloc, spans_in(Mem::Tt, buffer))?;
     let frames = frames_of(alloc, buffer)?;
     let jobs = unfinished_before_write(alloc, core, buffer)?;
-    Ok(Ghost {
-        num,
-        vram,
-        tt,
-        frames,
-        jobs,
-    })
+    ghost_of(alloc, buffer, num, frames, jobs)
 }
 
 /// Returns the ghost numbered `num` that buffer `b` of `core` leaves when it is freed.
@@ -68,14 +61,16 @@ fn ghost_of_buffer(alloc: Global, core: &Core, b: BufId, num: u64) -> Result<Gho
     ghost_of_freed(alloc, core, buffer_in(core, b, &dead), num)
 }
 
-/// Adds the ghost of the freed buffer `b`. The number 0 is that of no ghost. Without memory it leaves `core` as it was.
-fn leave_ghost(alloc: Global, core: &mut Core, b: BufId, num: u64) -> Result<(), NoMemory>
-    ensures ok { OnOk result (core.new ≡ record core.old { ghosts = (if num == 0 then core.old.ghosts else core.old.ghosts ++ rows.ghost_of_freed core.old (words.buffer_in core.old b) num ∷ []) }) }
-    ensures err { OnErr result (core.new ≡ core.old) }
+/// Adds the ghost of the freed buffer `b` to `state`, the last one from now on. The number 0 is that of no ghost. Without memory it leaves
+/// `state` as it was.
+fn leave_ghost(alloc: Global, state: &mut State, b: BufId, num: u64) -> Result<(), NoMemory>
+    ensures ok { OnOk result (state.new ≡ record state.old { core = record state.old.core { ghosts = (if num == 0 then state.old.core.ghosts else state.old.core.ghosts ++ rows.ghost_of_freed state.old.core (words.buffer state.old b) num ∷ []) }; last_ghost = (if num == 0 then state.old.last_ghost else num) }) }
+    ensures err { OnErr result (state.new ≡ state.old) }
 {
     if num != 0 {
-        let left = ghost_of_buffer(alloc, core, b, num)?;
-        core.ghosts.push(left)?;
+        let left = ghost_of_buffer(alloc, &state.core, b, num)?;
+        state.core.ghosts.push(left)?;
+        state.last_ghost = num;
     }
     Ok(())
 }
@@ -96,13 +91,10 @@ pub fn free(
     let lists = taken_off(alloc, state.lists.items(), b)?;
     let course = state.courses.get(thread as usize - 1);
     let held = without_buffer(alloc, course.held.items(), b)?;
-    leave_ghost(alloc, &mut state.core, b, num)?;
+    leave_ghost(alloc, state, b, num)?;
     put_item(&mut state.core.buffers, b.0, None);
     put_item(&mut state.reservations, b.0, no_reservation());
     state.lists = lists;
-    if num != 0 {
-        state.last_ghost = num;
-    }
     let course = state.courses.get_mut(thread as usize - 1);
     course.held = held;
     course.made = true;
@@ -188,7 +180,7 @@ pub fn answer(
 {
     let command = command_at_work(script, state, thread);
     let course = state.courses.get(thread as usize - 1);
-    let next = new_course(alloc, course.answered + 1);
+    let answered = course.answered + 1;
     let reservations = answered_reservations(
         alloc,
         &state.reservations,
@@ -206,6 +198,8 @@ pub fn answer(
     )?;
     state.reservations = reservations;
     state.lists = lists;
-    state.courses.set(thread as usize - 1, next);
+    state
+        .courses
+        .set(thread as usize - 1, new_course(alloc, answered));
     Ok(())
 }

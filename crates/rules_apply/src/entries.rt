@@ -27,33 +27,34 @@ pub fn apply(
 {
     let thread = thread_of(entry.who);
     let ctx = engine_of(entry.who);
-    match &entry.kind {
-        Kind::Ticket { s } => tickets::ticket(state, thread, *s),
-        Kind::Reserve { b } => return tickets::reserve(state, thread, *b),
-        Kind::Backoff { b, .. } => tickets::back_off(alloc, state, thread, *b),
-        Kind::New { b } => return commands::make(alloc, script, state, thread, *b),
-        Kind::Free { b, g } => return commands::free(alloc, state, thread, *b, *g),
-        Kind::Take { b, mem, spans } => return pages::take(state, thread, *b, *mem, spans),
-        Kind::Untake { b, mem } => pages::untake(state, *b, *mem),
-        Kind::Populate { b, page, frame } => pages::populate(state, *b, *page, *frame),
-        Kind::SwapIn { b, page, frame, .. } => pages::swap_in(state, *b, *page, *frame),
-        Kind::Depopulate { b } => pages::depopulate(state, *b),
-        Kind::Bind { b } => return pages::bind(alloc, script, state, *b),
-        Kind::Unbind { b } => return pages::unbind(alloc, script, state, *b),
-        Kind::Move { b, mem, num, left } => {
-            return moves::move_buffer(alloc, script, state, *b, *mem, *num, *left);
+    match entry.kind {
+        Kind::Ticket { s } => tickets::ticket(state, thread, s),
+        Kind::Reserve { b } => return tickets::reserve(state, thread, b),
+        Kind::Backoff { b, .. } => tickets::back_off(alloc, state, thread, b),
+        Kind::New { b } => return commands::make(alloc, script, state, thread, b),
+        Kind::Free { b, g } => return commands::free(alloc, state, thread, b, g),
+        Kind::Take { b, mem, ref spans } => return pages::take(state, thread, b, mem, spans),
+        Kind::Untake { b, mem } => pages::untake(state, b, mem),
+        Kind::Populate { b, page, frame } | Kind::SwapIn { b, page, frame, .. } => {
+            pages::give_frame(state, b, page, frame)
         }
-        Kind::Catch { b, why } => return victims::catch(alloc, state, thread, *b, *why),
-        Kind::Loose { b } => return victims::loose(alloc, script, state, thread, *b),
-        Kind::Skip { b } => return victims::skip(state, thread, *b),
-        Kind::Dry { b, k, .. } => return searches::dry(alloc, script, state, thread, *b, *k),
-        Kind::SwapOut { b, page, slot } => pages::swap_out(state, *b, *page, *slot),
-        Kind::NoPages { b } => victims::no_pages(state, thread, *b),
-        Kind::Arm { engine, num } => return jobs::arm(alloc, script, state, thread, *engine, *num),
-        Kind::Packet { num, .. } => jobs::packet_run(state, ctx, *num),
-        Kind::Done { num } => jobs::done(state, ctx, *num),
-        Kind::Reap { g } => jobs::reap(state, *g),
-        Kind::Bulk { group } => return commands::bulk(alloc, script, state, thread, *group),
+        Kind::Depopulate { b } => pages::depopulate(state, b),
+        Kind::Bind { b } => return pages::bind(alloc, script, state, b),
+        Kind::Unbind { b } => return pages::unbind(alloc, script, state, b),
+        Kind::Move { b, mem, num, left } => {
+            return moves::move_buffer(alloc, script, state, b, mem, num, left);
+        }
+        Kind::Catch { b, why } => return victims::catch(alloc, state, thread, b, why),
+        Kind::Loose { b } => return victims::loose(alloc, script, state, thread, b),
+        Kind::Skip { b } => return victims::skip(state, thread, b),
+        Kind::Dry { b, k, .. } => return searches::dry(alloc, script, state, thread, b, k),
+        Kind::SwapOut { b, page, slot } => pages::swap_out(state, b, page, slot),
+        Kind::NoPages { b } => victims::no_pages(state, thread, b),
+        Kind::Arm { engine, num } => return jobs::arm(alloc, script, state, thread, engine, num),
+        Kind::Packet { num, .. } => jobs::packet_run(state, ctx, num),
+        Kind::Done { num } => jobs::done(state, ctx, num),
+        Kind::Reap { g } => jobs::reap(state, g),
+        Kind::Bulk { group } => return commands::bulk(alloc, script, state, thread, group),
         Kind::Result { .. } => return commands::answer(alloc, script, state, thread),
         Kind::Refused { .. } => tickets::refuse(alloc, state, thread),
     }

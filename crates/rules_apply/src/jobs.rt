@@ -1,6 +1,6 @@
 ghost use Rattle.std.specs.Prelude.{◌≡◌, ◌+◌, ◌==◌, ◌++◌, ◌∷◌, [], true, IfOk, OnOk, OnErr, IsTrue, filter, flat_map, fold, not, if◌then◌else◌};
 ghost use Rattle.journal_model.specs.rules.Waits as waits;
-ghost use Rattle.journal_model.specs.rules.ApplyJobs.{with_use, after_arm, after_packet_run, after_done, after_reap};
+ghost use Rattle.journal_model.specs.rules.ApplyJobs.{with_use, core_after_arm, after_arm, after_packet_run, after_done, after_reap};
 ghost use Rattle.rules_apply.specs.Ready.{IsThread, CanRun};
 
 use journal_model::{Buffers, Core, Ghosts, Job, JobIds, Script, State};
@@ -11,16 +11,21 @@ use state_words::named_in;
 use std::alloc::Global;
 use ttm_base::{BufId, JobId, NoMemory, Op};
 
-/// Returns the jobs that a job with the operations `ops` waits for at its buffers `bs`.
-fn waits_at(alloc: Global, core: &Core, ops: &[Op], bs: &[BufId]) -> Result<JobIds, NoMemory>
-    ensures { IfOk result (λ jobs. jobs ≡ flat_map (waits.jobs_before_use core.now ops.now) bs.now) }
+/// Adds to `jobs` those that a job with the operations `ops` waits for at its buffers `bs`.
+fn add_waits(
+    alloc: Global,
+    jobs: &mut JobIds,
+    core: &Core,
+    ops: &[Op],
+    bs: &[BufId],
+) -> Result<(), NoMemory>
+    ensures { OnOk result (jobs.new ≡ jobs.old ++ flat_map (waits.jobs_before_use core.now ops.now) bs.now) }
 {
-    let mut jobs = JobIds::new(alloc);
     for b in bs {
         let more = jobs_before_use(alloc, core, ops, *b)?;
         jobs.append(&more)?;
     }
-    Ok(jobs)
+    Ok(())
 }
 
 /// Gives each of the buffers `bs` the job as a fence, in the way in which it uses the buffer. Without memory it leaves `buffers` as they
@@ -41,13 +46,22 @@ fn add_uses(buffers: &mut Buffers, job: JobId, ops: &[Op], bs: &[BufId]) -> Resu
     Ok(())
 }
 
-/// Adds `job`, and gives its buffers the fences. Without memory it leaves `core` as it was.
-fn emit(core: &mut Core, job: Job, ops: &[Op], bs: &[BufId]) -> Result<(), NoMemory>
-    ensures ok { OnOk result (core.new ≡ record core.old { jobs = core.old.jobs ++ job ∷ []; buffers = fold (with_use job.id ops.now) core.old.buffers bs.now }) }
+/// Adds the job `id` with the operations `ops`, after the jobs that it waits for, and gives its buffers `bs` the fences. Without memory it
+/// leaves `core` as it was.
+fn emit(alloc: Global, core: &mut Core, id: JobId, ops: &[Op], bs: &[BufId]) -> Result<(), NoMemory>
+    ensures ok { OnOk result (core.new ≡ core_after_arm core.old id ops.now bs.now) }
     ensures err { OnErr result (core.new ≡ core.old) }
 {
-    let id = job.id;
-    core.jobs.push(job)?;
+    let mut waits = JobIds::new(alloc);
+    add_waits(alloc, &mut waits, core, ops, bs)?;
+    let packets = packets_of(alloc, core, ops)?;
+    core.jobs.push(Job {
+        id,
+        waits,
+        packets,
+        ran: 0,
+        finished: false,
+    })?;
     if add_uses(&mut core.buffers, id, ops, bs).is_err() {
         core.jobs.drop_last();
         return Err(NoMemory);
@@ -69,18 +83,10 @@ pub fn arm(
     ensures ok { OnOk result (state.new ≡ after_arm script.now state.old thread ctx num) }
     ensures err { OnErr result (state.new ≡ state.old) }
 {
-    let id = JobId { ctx, num };
     let command = command_at_work(script, state, thread);
-    let ops = ops_of(command);
     let bs = named_in(alloc, command)?;
-    let job = Job {
-        id,
-        waits: waits_at(alloc, &state.core, ops, bs.items())?,
-        packets: packets_of(alloc, &state.core, ops)?,
-        ran: 0,
-        finished: false,
-    };
-    emit(&mut state.core, job, ops, bs.items())?;
+    let id = JobId { ctx, num };
+    emit(alloc, &mut state.core, id, ops_of(command), bs.items())?;
     put_item(&mut state.last_jobs, ctx, num);
     let course = state.courses.get_mut(thread as usize - 1);
     course.made = true;

@@ -2,16 +2,18 @@ ghost use Rattle.std.specs.Prelude.{◌≡◌, ◌<◌, ◌^◌, ◌++◌, ◌�
 ghost use Rattle.journal_model.specs.rules.State.{changed};
 ghost use Rattle.journal_model.specs.rules.State as words;
 ghost use Rattle.journal_model.specs.rules.Waits as waits;
+ghost use Rattle.journal_model.specs.rules.Holds as holds;
 ghost use Rattle.journal_model.specs.rules.ApplyMoves as rows;
+ghost use Rattle.ttm_base.specs.declared.Mem.TheVariants.{Tt, Vram};
 ghost use Rattle.rules_apply.specs.Ready.{HasShortTable};
 ghost use Rattle.rules_state.specs.rules_parts.Undo.{without_last};
 
+use crate::pages::relisted_in;
 use journal_model::{
     Buffer, Core, Frames, Ghost, Ghosts, Job, JobIds, Left, Packets, Script, State,
 };
 use rules_holds::{spans_in, unfinished_before_write};
 use rules_state::rules_parts::buffers::{carry, put_item};
-use rules_state::rules_parts::lists::relisted;
 use rules_state::{buffer_in, dead_buffer, frames_of, name_in_spans, packet_place, target_spans};
 use state_words::copy_of_page;
 use std::alloc::Global;
@@ -70,17 +72,32 @@ fn only(alloc: Global, id: JobId) -> Result<JobIds, NoMemory>
     Ok(jobs)
 }
 
-/// Returns the ghost numbered `num` that a moved buffer leaves until the job `id` is done.
-fn ghost_of_moved(alloc: Global, buffer: &Buffer, id: JobId, num: u64) -> Result<Ghost, NoMemory>
-    ensures { IfOk result (λ left. left ≡ rows.ghost_of_moved buffer.now id num) }
+/// Returns the ghost numbered `num` with the pages of `buffer` and with `frames`, which stay until `jobs` are done.
+pub fn ghost_of(
+    alloc: Global,
+    buffer: &Buffer,
+    num: u64,
+    frames: Frames,
+    jobs: JobIds,
+) -> Result<Ghost, NoMemory>
+    ensures { IfOk result (λ left. left ≡ record { num = num; vram = holds.spans_in Vram buffer.now; tt = holds.spans_in Tt buffer.now; frames = frames; jobs = jobs }) }
 {
     Ok(Ghost {
         num,
         vram: Spans::from_slice(alloc, spans_in(Mem::Vram, buffer))?,
         tt: Spans::from_slice(alloc, spans_in(Mem::Tt, buffer))?,
-        frames: frames_left(alloc, buffer)?,
-        jobs: only(alloc, id)?,
+        frames,
+        jobs,
     })
+}
+
+/// Returns the ghost numbered `num` that a moved buffer leaves until the job `id` is done.
+fn ghost_of_moved(alloc: Global, buffer: &Buffer, id: JobId, num: u64) -> Result<Ghost, NoMemory>
+    ensures { IfOk result (λ left. left ≡ rows.ghost_of_moved buffer.now id num) }
+{
+    let frames = frames_left(alloc, buffer)?;
+    let jobs = only(alloc, id)?;
+    ghost_of(alloc, buffer, num, frames, jobs)
 }
 
 /// Returns the ghost that a move leaves, or `None` if its pages are free at once.
@@ -195,15 +212,7 @@ pub fn move_buffer(
     ensures err { OnErr result (state.new ≡ state.old) }
 {
     let id = JobId { ctx: 0, num };
-    let lists = relisted(
-        alloc,
-        script,
-        state.core.buffers.items(),
-        state.reservations.items(),
-        state.lists.items(),
-        b,
-        mem,
-    )?;
+    let lists = relisted_in(alloc, script, state, b, mem)?;
     move_in_core(alloc, &mut state.core, b, mem, id, left)?;
     state.lists = lists;
     if let Left::Ghost(num) = left {

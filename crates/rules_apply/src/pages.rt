@@ -1,9 +1,10 @@
-ghost use Rattle.std.specs.Prelude.{◌≡◌, OnOk, OnErr, option_to_list};
+ghost use Rattle.std.specs.Prelude.{◌≡◌, IfOk, OnOk, OnErr, option_to_list};
 ghost use Rattle.journal_model.specs.rules.Waits.{jobs_before_target};
+ghost use Rattle.rules_state.specs.rules_parts.Listing.{relisted};
 ghost use Rattle.rules_apply.specs.Ready.{IsThread};
 ghost use Rattle.journal_model.specs.rules.ApplyPages.{after_take, after_bind, after_unbind, after_untake, after_populate, after_swap_in, after_swap_out, after_depopulate};
 
-use journal_model::{Core, Script, State};
+use journal_model::{Core, Lists, Script, State};
 use rules_holds::is_unfinished;
 use rules_state::rules_parts::lists::relisted;
 use rules_state::rules_parts::{buffers, courses};
@@ -47,16 +48,10 @@ pub fn untake(state: &mut State, b: BufId, mem: Mem)
     buffers::drop_target(&mut state.core.buffers, b, mem);
 }
 
-/// Gives page `page` of buffer `b` the frame `frame`.
-pub fn populate(state: &mut State, b: BufId, page: u32, frame: u32)
-    ensures { state.new ≡ after_populate state.old b page frame }
-{
-    buffers::set_page(&mut state.core.buffers, b, page, Loc::Frame(frame));
-}
-
-/// Brings page `page` of buffer `b` back from swap into the frame `frame`.
-pub fn swap_in(state: &mut State, b: BufId, page: u32, frame: u32)
-    ensures { state.new ≡ after_swap_in state.old b page frame }
+/// Gives page `page` of buffer `b` the frame `frame`: a frame of zeros, or one into which the page comes back from swap.
+pub fn give_frame(state: &mut State, b: BufId, page: u32, frame: u32)
+    ensures new { state.new ≡ after_populate state.old b page frame }
+    ensures back { state.new ≡ after_swap_in state.old b page frame }
 {
     buffers::set_page(&mut state.core.buffers, b, page, Loc::Frame(frame));
 }
@@ -75,21 +70,34 @@ pub fn depopulate(state: &mut State, b: BufId)
     buffers::depopulate(&mut state.core.buffers, b);
 }
 
-/// Moves buffer `b` from SYSTEM to TT (ttm_bo_move_null). Without memory it leaves `state` as it was.
-#[tactic(auto, using(crate::proofs::Rows::after_bind_is))]
-pub fn bind(alloc: Global, script: &Script, state: &mut State, b: BufId) -> Result<(), NoMemory>
-    ensures ok { OnOk result (state.new ≡ after_bind script.now state.old b) }
-    ensures err { OnErr result (state.new ≡ state.old) }
+/// Returns the lists of `state` after the live buffer `b` went to the memory type `mem`.
+pub fn relisted_in(
+    alloc: Global,
+    script: &Script,
+    state: &State,
+    b: BufId,
+    mem: Mem,
+) -> Result<Lists, NoMemory>
+    ensures { IfOk result (λ new. new ≡ relisted script.now state.now.core.buffers state.now.reservations state.now.lists b mem) }
 {
-    let lists = relisted(
+    relisted(
         alloc,
         script,
         state.core.buffers.items(),
         state.reservations.items(),
         state.lists.items(),
         b,
-        Mem::Tt,
-    )?;
+        mem,
+    )
+}
+
+/// Moves buffer `b` from SYSTEM to TT (ttm_bo_move_null). Without memory it leaves `state` as it was.
+#[tactic(auto, using(crate::proofs::Rows::after_bind_is))]
+pub fn bind(alloc: Global, script: &Script, state: &mut State, b: BufId) -> Result<(), NoMemory>
+    ensures ok { OnOk result (state.new ≡ after_bind script.now state.old b) }
+    ensures err { OnErr result (state.new ≡ state.old) }
+{
+    let lists = relisted_in(alloc, script, state, b, Mem::Tt)?;
     buffers::bind(alloc, &mut state.core.buffers, b);
     state.lists = lists;
     Ok(())
@@ -101,15 +109,7 @@ pub fn unbind(alloc: Global, script: &Script, state: &mut State, b: BufId) -> Re
     ensures ok { OnOk result (state.new ≡ after_unbind script.now state.old b) }
     ensures err { OnErr result (state.new ≡ state.old) }
 {
-    let lists = relisted(
-        alloc,
-        script,
-        state.core.buffers.items(),
-        state.reservations.items(),
-        state.lists.items(),
-        b,
-        Mem::System,
-    )?;
+    let lists = relisted_in(alloc, script, state, b, Mem::System)?;
     buffers::unbind(alloc, &mut state.core.buffers, b);
     state.lists = lists;
     Ok(())

@@ -1,4 +1,4 @@
-ghost use Rattle.std.specs.Prelude.{◌≡◌, IfOk, None, [], map, replicate};
+ghost use Rattle.std.specs.Prelude.{◌≡◌, ◌++◌, IfOk, None, OnOk, [], map, replicate};
 ghost use Rattle.journal_model.specs.rules.State as words;
 ghost use Rattle.journal_model.specs.rules.Legal as legal;
 
@@ -10,71 +10,68 @@ use state_words::first_courses;
 use std::alloc::Global;
 use ttm_base::NoMemory;
 
-/// Returns an entry for each declared buffer, all of them dead.
-fn dead_buffers(alloc: Global, decls: &[Decl]) -> Result<Buffers, NoMemory>
-    ensures { IfOk result (λ buffers. buffers ≡ map (λ d. None) decls.now) }
+/// Adds an entry to `buffers` for each declared buffer, all of them dead.
+fn add_dead(buffers: &mut Buffers, decls: &[Decl]) -> Result<(), NoMemory>
+    ensures { OnOk result (buffers.new ≡ buffers.old ++ map (λ d. None) decls.now) }
 {
-    let mut buffers = Buffers::new(alloc);
     for _decl in decls {
         buffers.push(None)?;
     }
-    Ok(buffers)
+    Ok(())
 }
 
-/// Returns a reservation for each declared buffer, neither pinned nor held.
-fn no_reservations(alloc: Global, decls: &[Decl]) -> Result<Reservations, NoMemory>
-    ensures { IfOk result (λ reservations. reservations ≡ map (λ d. words.no_reservation) decls.now) }
+/// Adds a reservation to `reservations` for each declared buffer, neither pinned nor held.
+fn add_unreserved(reservations: &mut Reservations, decls: &[Decl]) -> Result<(), NoMemory>
+    ensures { OnOk result (reservations.new ≡ reservations.old ++ map (λ d. words.no_reservation) decls.now) }
 {
-    let mut reservations = Reservations::new(alloc);
     for _decl in decls {
         reservations.push(no_reservation())?;
     }
-    Ok(reservations)
+    Ok(())
 }
 
-/// Returns `count` empty lists of buffers.
-fn empty_lists(alloc: Global, count: u32) -> Result<Lists, NoMemory>
-    ensures { IfOk result (λ lists. lists ≡ replicate count []) }
+/// Adds `count` empty lists of buffers to `lists`.
+fn add_empty(alloc: Global, lists: &mut Lists, count: u32) -> Result<(), NoMemory>
+    ensures { OnOk result (lists.new ≡ lists.old ++ replicate count []) }
 {
-    let mut lists = Lists::new(alloc);
     for _list in 0..count {
         lists.push(BufIds::new(alloc))?;
     }
-    Ok(lists)
+    Ok(())
 }
 
-/// Returns `count` zeros.
-fn zeros(alloc: Global, count: usize) -> Result<Numbers, NoMemory>
-    ensures { IfOk result (λ numbers. numbers ≡ replicate count 0) }
+/// Adds `count` zeros to `numbers`.
+fn add_zeros(numbers: &mut Numbers, count: usize) -> Result<(), NoMemory>
+    ensures { OnOk result (numbers.new ≡ numbers.old ++ replicate count 0) }
 {
-    let mut numbers = Numbers::new(alloc);
     for _number in 0..count {
         numbers.push(0)?;
     }
-    Ok(numbers)
+    Ok(())
 }
 
 /// Returns the state before all entries: all buffers dead, all pages free, all lists empty.
 pub fn first_state(alloc: Global, script: &Script) -> Result<State, NoMemory>
     ensures { IfOk result (λ s. s ≡ legal.first_state script.now) }
 {
-    let buffers = dead_buffers(alloc, script.buffers.items())?;
-    let reservations = no_reservations(alloc, script.buffers.items())?;
-    let lists = empty_lists(alloc, 12)?;
-    let last_jobs = zeros(alloc, script.sizes.engines as usize + 1)?;
     let courses = first_courses(alloc, script.threads.items())?;
-    Ok(State {
+    let mut state = State {
         core: Core {
-            buffers,
+            buffers: Buffers::new(alloc),
             jobs: Jobs::new(alloc),
             ghosts: Ghosts::new(alloc),
             move_fence: None,
         },
-        reservations,
-        lists,
+        reservations: Reservations::new(alloc),
+        lists: Lists::new(alloc),
         last_stamp: 0,
         last_ghost: 0,
-        last_jobs,
+        last_jobs: Numbers::new(alloc),
         courses,
-    })
+    };
+    add_dead(&mut state.core.buffers, script.buffers.items())?;
+    add_unreserved(&mut state.reservations, script.buffers.items())?;
+    add_empty(alloc, &mut state.lists, 12)?;
+    add_zeros(&mut state.last_jobs, script.sizes.engines as usize + 1)?;
+    Ok(state)
 }

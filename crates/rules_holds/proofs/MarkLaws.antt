@@ -1,10 +1,10 @@
 -- Marks of numbers, and the lowest without one.
-use Rattle.std.proofs.Common.{◌≡◌, ℕ, zero, suc, ◌+◌, ◌<◌, ◌≤◌, Bool, true, false, List, [], ◌∷◌, ◌++◌, length, get_or, set, replicate, None, refl, arith, ◌∙◌}
-use Rattle.std.specs.Prelude.{filter, find, not, nat_eq}
+use Rattle.std.proofs.Common.{◌≡◌, ℕ, zero, suc, ◌+◌, ◌<◌, ◌≤◌, Bool, true, false, List, [], ◌∷◌, ◌++◌, length, get_or, set, take, replicate, None, refl, arith, ◌∙◌}
+use Rattle.std.specs.Prelude.{filter, find, flat_map, not, nat_eq}
 use Rattle.std.proofs.lemmas.Grind.{common_steps}
 use Rattle.std.proofs.lemmas.Bool.Decides.{nat_tests}
 use Rattle.std.proofs.lemmas.Bool.{cases_eq}
-use Rattle.std.proofs.lemmas.List.{get_or-set_same, get_or-set_other}
+use Rattle.std.proofs.lemmas.List.{get_or-set_same, get_or-set_other, take_more}
 use Rattle.ttm_base.specs.ListWords.{count_from}
 use Rattle.journal_model.specs.statements.Account.{count_free}
 use Rattle.journal_model.specs.rules.Holds.{has_number, lowest_free}
@@ -23,6 +23,14 @@ marked_then a b c xs ys m n = record {
       let second = n.marked k (grind (arith, m.len)) in
       grind (arith, common_steps, first, second);
 }
+
+-- numbers, and then those of one item more
+pub marked_more : {X : Type 0} (f : X → List ℕ) (xs : List X) (i : ℕ) (d : X) (ys : List ℕ) (a b c : List Bool) → i < length xs → ys ≡ f (get_or xs i d)
+    → AreMarked a (flat_map f (take i xs)) b → AreMarked b ys c → AreMarked a (flat_map f (take (i + 1) xs)) c
+marked_more f xs i d ys a b c l e m n =
+    let more = take_more xs i d l in
+    let parts : flat_map f (take (i + 1) xs) ≡ flat_map f (take i xs) ++ ys = grind (arith, common_steps) in
+    rw parts (marked_then a b c (flat_map f (take i xs)) ys m n)
 
 -- one number that has a mark
 pub marked_one : (marks : List Bool) (i : ℕ) → i < length marks → AreMarked marks (i ∷ []) (set marks i true)

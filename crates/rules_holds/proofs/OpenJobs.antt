@@ -18,7 +18,7 @@ any_in_parts p jobs n =
     subst (λ all. (list_any p (drop n jobs) || list_any p (take n jobs)) ≡ list_any p all) (sym joined) (grind (arith, common_steps))
 
 -- one has a place among them where one passes
-any_has_place : (p : Job → Bool) (jobs : List Job) → list_any p jobs ≡ is_some (position p jobs)
+pub any_has_place : (p : Job → Bool) (jobs : List Job) → list_any p jobs ≡ is_some (position p jobs)
 any_has_place p [] = refl
 any_has_place p (j ∷ js) = let rest = any_has_place p js in grind (arith, common_steps)
 

@@ -80,14 +80,23 @@ fn mark_slots(marks: &mut Vec<bool>, table: &[Loc])
     }
 }
 
+/// Returns the page table of the live buffer in `slot`, an empty one if no buffer is there.
+fn table_of(slot: &Option<Buffer>) -> &[Loc]
+    ensures frames { filter_map places.frame_of result.now ≡ frames_of_slot slot.now }
+    ensures slots { filter_map places.slot_of result.now ≡ slots_of_slot slot.now }
+{
+    match slot {
+        Some(buffer) => buffer.table.items(),
+        None => &[],
+    }
+}
+
 /// Sets the marks of the frames of the live buffers among `buffers`.
 fn mark_live_frames(marks: &mut Vec<bool>, buffers: &[Option<Buffer>])
     ensures { AreMarked marks.old.items (flat_map frames_of_slot buffers.now) marks.new.items }
 {
     for slot in buffers {
-        if let Some(buffer) = slot {
-            mark_frames(marks, buffer.table.items());
-        }
+        mark_frames(marks, table_of(slot));
     }
 }
 
@@ -96,9 +105,7 @@ fn mark_live_slots(marks: &mut Vec<bool>, buffers: &[Option<Buffer>])
     ensures { AreMarked marks.old.items (flat_map slots_of_slot buffers.now) marks.new.items }
 {
     for slot in buffers {
-        if let Some(buffer) = slot {
-            mark_slots(marks, buffer.table.items());
-        }
+        mark_slots(marks, table_of(slot));
     }
 }
 

@@ -44,11 +44,11 @@ fn unmarked_numbers(alloc: Global, marks: &[bool]) -> Result<BitSet, NoMemory>
 
 impl FreeNumbers {
     /// Makes the set of the numbers whose mark in `held` isn't set.
-    fn new(alloc: Global, held: &[bool]) -> Result<FreeNumbers, NoMemory>
-        requires { length held.now < 2 ^ 32 }
-        ensures { IfOk result (AreTurned held.now (length held.now)) }
+    fn new(alloc: Global, held: Vec<bool>) -> Result<FreeNumbers, NoMemory>
+        requires { length held.items < 2 ^ 32 }
+        ensures { IfOk result (AreTurned held.items (length held.items)) }
     {
-        let numbers = unmarked_numbers(alloc, held)?;
+        let numbers = unmarked_numbers(alloc, &held)?;
         Ok(FreeNumbers {
             numbers,
             len: held.len(),
@@ -96,8 +96,8 @@ impl FreeSets {
     pub fn new(alloc: Global, script: &Script, core: &Core) -> Result<FreeSets, NoMemory>
         ensures { IfOk result (AreFree script.now core.now) }
     {
-        let frames = FreeNumbers::new(alloc, &frame_marks(alloc, script, core)?)?;
-        let slots = FreeNumbers::new(alloc, &slot_marks(alloc, script, core)?)?;
+        let frames = FreeNumbers::new(alloc, frame_marks(alloc, script, core)?)?;
+        let slots = FreeNumbers::new(alloc, slot_marks(alloc, script, core)?)?;
         Ok(FreeSets { frames, slots })
     }
 

@@ -32,18 +32,17 @@ pub fn ghost_spans(mem: Mem, left: &Ghost) -> &[Span]
     }
 }
 
-/// Returns the spans that live buffers hold in the memory type `mem`, for each buffer those of its target after its own.
-fn live_spans(alloc: Global, mem: Mem, buffers: &[Option<Buffer>]) -> Result<Spans, NoMemory>
-    ensures { IfOk result (λ spans. spans ≡ flat_map (spans_of_slot mem) buffers.now) }
+/// Appends the spans that live buffers hold in the memory type `mem` to `spans`, for each of `buffers` those of its target after its own.
+fn push_live(spans: &mut Spans, mem: Mem, buffers: &[Option<Buffer>]) -> Result<(), NoMemory>
+    ensures { OnOk result (spans.new ≡ spans.old ++ flat_map (spans_of_slot mem) buffers.now) }
 {
-    let mut spans = Spans::new(alloc);
     for slot in buffers {
         if let Some(buffer) = slot {
             spans.extend(spans_in(mem, buffer))?;
             spans.extend(target_spans(mem, buffer))?;
         }
     }
-    Ok(spans)
+    Ok(())
 }
 
 /// Appends the spans that `ghosts` hold in the memory type `mem` to `spans`.
@@ -61,7 +60,8 @@ fn push_ghosts(spans: &mut Spans, mem: Mem, ghosts: &[Ghost]) -> Result<(), NoMe
 pub fn held_spans(alloc: Global, mem: Mem, core: &Core) -> Result<Spans, NoMemory>
     ensures { IfOk result (λ spans. spans ≡ words.held_spans mem core.now) }
 {
-    let mut spans = live_spans(alloc, mem, core.buffers.items())?;
+    let mut spans = Spans::new(alloc);
+    push_live(&mut spans, mem, core.buffers.items())?;
     push_ghosts(&mut spans, mem, core.ghosts.items())?;
     Ok(spans)
 }

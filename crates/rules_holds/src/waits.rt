@@ -15,13 +15,6 @@ use state_words::is_written;
 use std::alloc::Global;
 use ttm_base::{BufId, JobId, Mem, NoMemory, Op, Usage};
 
-/// Returns whether one of `jobs` has the name `i` and isn't done.
-fn has_unfinished(jobs: &[Job], i: JobId) -> bool
-    ensures { result ≡ is_open jobs.now i }
-{
-    jobs.iter().any(|j| same_job(i, j.id) && !j.finished)
-}
-
 /// Returns the position of the first of `jobs` that has the name `i` and isn't done, or `None` if there is none.
 fn place_of(jobs: &[Job], i: JobId) -> Option<usize>
     ensures { result ≡ position (λ j. same_job i j.id && not j.finished) jobs.now }
@@ -75,7 +68,7 @@ fn is_open(core: &Core, least: u64, place: &mut usize, i: JobId) -> bool
 pub fn is_unfinished(core: &Core, i: JobId) -> bool
     ensures { result ≡ words.is_unfinished core.now i }
 {
-    has_unfinished(core.jobs.pending(), i)
+    place_of(core.jobs.pending(), i).is_some()
 }
 
 /// Returns the job to name of `named` and the job `i` after it: the one in the lesser context, or of one context the one with the greater

@@ -152,6 +152,41 @@ slot_is k e = cc
 pub own_is : (b i : ℕ) → Own b i ≡ Nowhere → ⊥
 own_is b i e = cc
 
+-- a page is nowhere, or it isn't
+pub by_place : (P : Page → Type 0) → P Nowhere → ((x : Page) → (x ≡ Nowhere → ⊥) → P x) → (x : Page) → P x
+by_place P none some Nowhere = none
+by_place P none some (Vram n) = some (Vram n) (vram_is n)
+by_place P none some (Frame f) = some (Frame f) (frame_is f)
+by_place P none some (Slot k) = some (Slot k) (slot_is k)
+by_place P none some (Own b i) = some (Own b i) (own_is b i)
+
+-- a page that nobody holds is no buffer's
+pub unheld-live : (x : Page) (b k : ℕ) → unheld x ≡ Live b k → ⊥
+unheld-live Nowhere b k e = cc
+unheld-live (Vram n) b k e = cc
+unheld-live (Frame f) b k e = cc
+unheld-live (Slot j) b k e = cc
+unheld-live (Own d i) b k e = cc
+
+pub unheld-target : (x : Page) (b k : ℕ) → unheld x ≡ Target b k → ⊥
+unheld-target Nowhere b k e = cc
+unheld-target (Vram n) b k e = cc
+unheld-target (Frame f) b k e = cc
+unheld-target (Slot j) b k e = cc
+unheld-target (Own d i) b k e = cc
+
+pub idle-live : (b k : ℕ) → Idle ≡ Live b k → ⊥
+idle-live b k e = cc
+
+pub idle-target : (b k : ℕ) → Idle ≡ Target b k → ⊥
+idle-target b k e = cc
+
+pub live-target : (b i d k : ℕ) → Live b i ≡ Target d k → ⊥
+live-target b i d k e = cc
+
+pub kept-target : (b i d k : ℕ) → Kept b i ≡ Target d k → ⊥
+kept-target b i d k e = cc
+
 abbrev pub owner_of : Core → Page → Owner
 owner_of c Nowhere = Idle
 owner_of c (Vram n) = chosen_owner c (Vram n) (decide c (Vram n) (vram_is n))

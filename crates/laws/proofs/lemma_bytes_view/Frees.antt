@@ -25,7 +25,7 @@ use Rattle.laws.proofs.lemma_bytes_model.Owners.{free_keeps, reown_keeps}
 use Rattle.laws.specs.law_holders.Holding.{seen, live_at, kept_in, target_at, buffer_at, Holds, HeldOnce}
 use Rattle.laws.specs.law_holders.Maps.{Maps}
 use Rattle.laws.proofs.law_holders.HeldOnce.{held_once, in_vram_is}
-use Rattle.laws.proofs.law_holders.Owner.{owner_of, owner_is, owner_none, owning, unheld}
+use Rattle.laws.proofs.law_holders.Owner.{owner_of, owner_is, owner_none, owning, unheld, by_place, unheld-live, unheld-target, idle-live, idle-target}
 use Rattle.laws.proofs.law_holders.Mapped.{aperture_maps, maps_aperture}
 use Rattle.laws.proofs.lemma_bytes_view.World.{Seen, bare}
 use Rattle.laws.proofs.lemma_bytes_view.PacketStep.{no_bytes}
@@ -116,11 +116,7 @@ module _ (script : Script) (c : Core) (owed_probes : OwedProbes) (m : Memory) (b
           (owning (bare (record c { buffers = slice_set c.buffers b.0 None })) y ne).fact
 
       by : (y : Page) → owner_of (bare (record c { buffers = slice_set c.buffers b.0 None })) y ≡ Live b.0 k → ⊥
-      by Nowhere e = cc
-      by (memory.Vram n) e = at (memory.Vram n) (λ q. cc) (λ q. cc) e
-      by (Frame n) e = at (Frame n) (λ q. cc) (λ q. cc) e
-      by (memory.Slot n) e = at (memory.Slot n) (λ q. cc) (λ q. cc) e
-      by (Own d i) e = at (Own d i) (λ q. cc) (λ q. cc) e
+      by = by_place (λ y. owner_of (bare (record c { buffers = slice_set c.buffers b.0 None })) y ≡ Live b.0 k → ⊥) (idle-live b.0 k) (λ y ne. at y ne (unheld-live y b.0 k))
 
   no_target_of : (y : Page) (k : ℕ) → owner_of (bare (record c { buffers = slice_set c.buffers b.0 None })) y ≡ Target b.0 k → ⊥
   no_target_of y k e = by y e
@@ -133,11 +129,7 @@ module _ (script : Script) (c : Core) (owed_probes : OwedProbes) (m : Memory) (b
           (owning (bare (record c { buffers = slice_set c.buffers b.0 None })) y ne).fact
 
       by : (y : Page) → owner_of (bare (record c { buffers = slice_set c.buffers b.0 None })) y ≡ Target b.0 k → ⊥
-      by Nowhere e = cc
-      by (memory.Vram n) e = at (memory.Vram n) (λ q. cc) (λ q. cc) e
-      by (Frame n) e = at (Frame n) (λ q. cc) (λ q. cc) e
-      by (memory.Slot n) e = at (memory.Slot n) (λ q. cc) (λ q. cc) e
-      by (Own d i) e = at (Own d i) (λ q. cc) (λ q. cc) e
+      by = by_place (λ y. owner_of (bare (record c { buffers = slice_set c.buffers b.0 None })) y ≡ Target b.0 k → ⊥) (idle-target b.0 k) (λ y ne. at y ne (unheld-target y b.0 k))
 
   fate : (y : Page) → Fate v b.0 0 y (owner_of (bare (record c { buffers = slice_set c.buffers b.0 None })) y)
   fate y = by_page y
@@ -184,11 +176,7 @@ module _ (script : Script) (c : Core) (owed_probes : OwedProbes) (m : Memory) (b
           (owning (bare c) y ne).fact
 
       by_page : (y : Page) → Fate v b.0 0 y (owner_of (bare (record c { buffers = slice_set c.buffers b.0 None })) y)
-      by_page Nowhere = inr (inr (inr (inr (sym (s.owner Nowhere)))))
-      by_page (memory.Vram n) = at (memory.Vram n) (λ e. cc)
-      by_page (Frame n) = at (Frame n) (λ e. cc)
-      by_page (memory.Slot n) = at (memory.Slot n) (λ e. cc)
-      by_page (Own d i) = at (Own d i) (λ e. cc)
+      by_page = by_place (λ y. Fate v b.0 0 y (owner_of (bare (record c { buffers = slice_set c.buffers b.0 None })) y)) (inr (inr (inr (inr (sym (s.owner Nowhere)))))) at
 
   abbrev gone : View
   gone = freed b.0 (owner_of (bare (record c { buffers = slice_set c.buffers b.0 None }))) 0 (λ j. false) no_bytes v

@@ -31,7 +31,7 @@ use Rattle.laws.proofs.lemma_bytes_model.Owners.{free_keeps}
 use Rattle.laws.specs.law_holders.Holding.{seen, live_at, kept_in, target_at, in_ghost, buffer_at, Holds, HeldOnce}
 use Rattle.laws.specs.law_holders.Maps.{Maps}
 use Rattle.laws.proofs.law_holders.HeldOnce.{held_once, in_vram_is, in_vram, live_is, LiveVram, LiveTable, Located, in_frame, in_slot}
-use Rattle.laws.proofs.law_holders.Owner.{owner_of, owner_is, owner_none, owning, unheld}
+use Rattle.laws.proofs.law_holders.Owner.{owner_of, owner_is, owner_none, owning, unheld, by_place, unheld-live, unheld-target, idle-live, idle-target, live-target, kept-target}
 use Rattle.laws.proofs.law_holders.Mapped.{aperture_maps, maps_aperture}
 use Rattle.laws.proofs.lemma_bytes_view.World.{Seen, bare, IsGhostly}
 use Rattle.laws.proofs.lemma_bytes_view.PacketStep.{no_bytes}
@@ -187,11 +187,7 @@ module _ (script : Script) (c : Core) (owed_probes : OwedProbes) (m : Memory) (b
           (owning (bare d) y ne).fact
 
       by : (y : Page) → owner_of (bare d) y ≡ Live b.0 k → ⊥
-      by Nowhere e = cc
-      by (Vram n) e = at (Vram n) (λ q. cc) (λ q. cc) e
-      by (Frame n) e = at (Frame n) (λ q. cc) (λ q. cc) e
-      by (Slot n) e = at (Slot n) (λ q. cc) (λ q. cc) e
-      by (Own d i) e = at (Own d i) (λ q. cc) (λ q. cc) e
+      by = by_place (λ y. owner_of (bare d) y ≡ Live b.0 k → ⊥) (idle-live b.0 k) (λ y ne. at y ne (unheld-live y b.0 k))
 
   no_target_of : (y : Page) (k : ℕ) → owner_of (bare d) y ≡ Target b.0 k → ⊥
   no_target_of y k e = by y e
@@ -204,11 +200,7 @@ module _ (script : Script) (c : Core) (owed_probes : OwedProbes) (m : Memory) (b
           (owning (bare d) y ne).fact
 
       by : (y : Page) → owner_of (bare d) y ≡ Target b.0 k → ⊥
-      by Nowhere e = cc
-      by (Vram n) e = at (Vram n) (λ q. cc) (λ q. cc) e
-      by (Frame n) e = at (Frame n) (λ q. cc) (λ q. cc) e
-      by (Slot n) e = at (Slot n) (λ q. cc) (λ q. cc) e
-      by (Own d i) e = at (Own d i) (λ q. cc) (λ q. cc) e
+      by = by_place (λ y. owner_of (bare d) y ≡ Target b.0 k → ⊥) (idle-target b.0 k) (λ y ne. at y ne (unheld-target y b.0 k))
 
   fate : (y : Page) → Fate v b.0 gn y (owner_of (bare d) y)
   fate y = by_page y
@@ -225,8 +217,8 @@ module _ (script : Script) (c : Core) (owed_probes : OwedProbes) (m : Memory) (b
           ne (sym l ∙ ap (λ z. target_at z k) (dead_is b.0 refl)))
           (λ w.
           ⊎_elim
-          (λ q. let z : Live b.0 w.0 ≡ Target b.0 k = before y (Live b.0 w.0) (Target b.0 k) ne q t in cc)
-          (λ q. let z : Kept b.0 w.0 ≡ Target b.0 k = before y (Kept b.0 w.0) (Target b.0 k) ne q t in cc)
+          (λ q. live-target b.0 w.0 b.0 k (before y (Live b.0 w.0) (Target b.0 k) ne q t))
+          (λ q. kept-target b.0 w.0 b.0 k (before y (Kept b.0 w.0) (Target b.0 k) ne q t))
           w.1)
           (back y ne o h)
 
@@ -270,11 +262,7 @@ module _ (script : Script) (c : Core) (owed_probes : OwedProbes) (m : Memory) (b
           (owning (bare c) y ne).fact
 
       by_page : (y : Page) → Fate v b.0 gn y (owner_of (bare d) y)
-      by_page Nowhere = inr (inr (inr (inr (sym (s.owner Nowhere)))))
-      by_page (Vram n) = at (Vram n) (λ e. cc)
-      by_page (Frame n) = at (Frame n) (λ e. cc)
-      by_page (Slot n) = at (Slot n) (λ e. cc)
-      by_page (Own d i) = at (Own d i) (λ e. cc)
+      by_page = by_place (λ y. Fate v b.0 gn y (owner_of (bare d) y)) (inr (inr (inr (inr (sym (s.owner Nowhere)))))) at
 
   -- ---- jobs
 

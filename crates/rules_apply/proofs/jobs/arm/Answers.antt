@@ -5,7 +5,6 @@ use Rattle.rules_apply.proofs.jobs.arm.Goals as goal
 pub returns-clause-ok : goal.returns-clause-ok
 returns-clause-ok c =
     after_arm_is c.args.script.now c.args.state.now c.args.thread (record { ctx = c.args.ctx; num = c.args.num }) (option_copied c.command_at_work-command.result)
-    c.ops_of-ops.result.now c.in_ok-bs.bs c.items.result.now c.items-2.result.now c.in_ok-waits_at.field-0 c.in_ok-packets_of.field-0
-    c.emit.new.core c.put_item.new.items c.get_mut-course.result.now
-    c.requires c.command_at_work-command.ensures c.ops_of-ops.ensures c.in_ok-bs.ensures c.items.ensures c.items-2.ensures
-    c.in_ok-waits_at.ensures c.in_ok-packets_of.ensures c.in_ok-emit.ensures.ok c.put_item.ensures c.get_mut-course.ensures.value
+    c.ops_of.result.now c.in_ok-bs.bs c.items.result.now c.emit.new.core c.put_item.new.items c.get_mut-course.result.now
+    c.requires c.command_at_work-command.ensures c.ops_of.ensures c.in_ok-bs.ensures c.items.ensures
+    c.in_ok-emit.ensures.ok c.put_item.ensures c.get_mut-course.ensures.value
