@@ -38,11 +38,11 @@ impl Request {
         let end = hole.end().min(self.last) as u64;
         let pages = self.pages as u64;
         let align = self.align as u64;
-        let tested = match mode {
-            Mode::Best | Mode::Low => aligned_up(start, align),
-            Mode::High => aligned_down(end.saturating_sub(pages), align),
-        };
-        pages > 0 && start <= tested && tested + pages <= end
+        pages > 0
+            && match mode {
+                Mode::Best | Mode::Low => aligned_up(start, align) + pages <= end,
+                Mode::High => pages <= end && start <= aligned_down(end - pages, align),
+            }
     }
 
     /// Some hole before the one at a root may fit, where the longest of them is so long.
