@@ -1,4 +1,4 @@
-ghost use Rattle.std.specs.Prelude.{◌≡◌, slice_set, true};
+ghost use Rattle.std.specs.Prelude.{◌≡◌, Some, false, replicate, slice_get, slice_set, true};
 
 use crate::wanted::ensure;
 use free_map::FreeMap;
@@ -20,20 +20,27 @@ fn takes(rt: &impl Abort, map: &mut FreeMap, number: u32, count: u32, lowest: Op
     assert_free(rt, map, count, lowest);
 }
 
+/// Takes all of three numbers, and asserts that there are no more.
+fn take_all(rt: &impl Abort, map: &mut FreeMap)
+    requires { map.old ≡ replicate 3 false }
+    ensures { slice_get map.new 1 ≡ Some true }
+{
+    takes(rt, map, 0, 2, Some(1));
+    takes(rt, map, 1, 1, Some(2));
+    takes(rt, map, 2, 0, None);
+    ensure(rt, map.take().is_none());
+    assert_free(rt, map, 0, None);
+}
+
 #[test]
 fn lowest_free_of_three(rt: HostRuntime) {
     let rt = &rt;
     let mut map = FreeMap::new(rt.alloc(), 3).expect(rt, "a map");
     assert_free(rt, &map, 3, Some(0));
-    takes(rt, &mut map, 0, 2, Some(1));
-    takes(rt, &mut map, 1, 1, Some(2));
-    takes(rt, &mut map, 2, 0, None);
-    ensure(rt, map.take() == None);
-    assert_free(rt, &map, 0, None);
+    take_all(rt, &mut map);
     map.give(1);
     assert_free(rt, &map, 1, Some(1));
     takes(rt, &mut map, 1, 0, None);
-    drop(map);
 }
 
 /// Asserts that `count` frames are free, and that `lowest` is the lowest of them.
@@ -51,18 +58,25 @@ fn takes_frame(rt: &impl Abort, pool: &mut PagePool, frame: u32, count: u32, low
     assert_free_frames(rt, pool, count, lowest);
 }
 
+/// Takes all of three frames, and asserts that there are no more.
+fn take_all_frames(rt: &impl Abort, pool: &mut PagePool)
+    requires { pool.old ≡ replicate 3 false }
+    ensures { slice_get pool.new 1 ≡ Some true }
+{
+    takes_frame(rt, pool, 0, 2, Some(1));
+    takes_frame(rt, pool, 1, 1, Some(2));
+    takes_frame(rt, pool, 2, 0, None);
+    ensure(rt, pool.take().is_none());
+    assert_free_frames(rt, pool, 0, None);
+}
+
 #[test]
 fn pool_of_three_frames(rt: HostRuntime) {
     let rt = &rt;
     let mut pool = PagePool::new(rt.alloc(), 3).expect(rt, "a pool");
     assert_free_frames(rt, &pool, 3, Some(0));
-    takes_frame(rt, &mut pool, 0, 2, Some(1));
-    takes_frame(rt, &mut pool, 1, 1, Some(2));
-    takes_frame(rt, &mut pool, 2, 0, None);
-    ensure(rt, pool.take() == None);
-    assert_free_frames(rt, &pool, 0, None);
+    take_all_frames(rt, &mut pool);
     pool.give(1);
     assert_free_frames(rt, &pool, 1, Some(1));
     takes_frame(rt, &mut pool, 1, 0, None);
-    drop(pool);
 }

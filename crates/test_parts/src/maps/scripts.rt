@@ -88,9 +88,10 @@ fn is_area(area: &Area, want: &(u32, BufId)) -> bool {
 
 /// Asserts that the mappings are of these threads and buffers, with two pages each.
 fn assert_areas(rt: &impl Abort, maps: &CpuMaps, want: &[(u32, BufId)]) {
-    ensure(rt, maps.areas().len() == want.len());
-    for (area, owner) in maps.areas().iter().zip(want) {
-        ensure(rt, is_area(area, owner));
+    let areas = maps.areas();
+    ensure(rt, areas.len() == want.len());
+    for place in 0..areas.len() {
+        ensure(rt, is_area(&areas[place], &want[place]));
     }
 }
 

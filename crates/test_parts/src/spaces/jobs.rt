@@ -36,8 +36,9 @@ fn assert_job(rt: &impl Abort, alloc: Global, space: &Space, ops: &[VOp], want: 
 /// Asserts that the parts are these.
 fn are_pieces(rt: &impl Abort, pieces: &[Piece], want: &[(BufId, u32, u32)]) {
     ensure(rt, pieces.len() == want.len());
-    for (piece, told) in pieces.iter().zip(want) {
-        ensure(rt, (piece.b, piece.off, piece.len) == *told);
+    for place in 0..pieces.len() {
+        let piece = pieces[place];
+        ensure(rt, (piece.b, piece.off, piece.len) == want[place]);
     }
 }
 

@@ -75,28 +75,32 @@ fn is_kept(part: Option<Span>, want: Option<(u32, u32)>) -> bool {
 
 /// Returns whether the step is this one.
 fn is_told(step: VStep, want: Told) -> bool {
-    match (step, want) {
-        (VStep::Unmap { span }, Gone(start, end)) => has_ends(span, start, end),
-        (
-            VStep::Remap {
-                span,
-                before,
-                after,
-            },
-            Kept(start, end, left, right),
-        ) => has_ends(span, start, end) && is_kept(before, left) && is_kept(after, right),
-        (VStep::Map { span, b, off }, Made(start, end, buffer, first)) => {
-            has_ends(span, start, end) && b == buffer && off == first
-        }
-        _ => false,
+    match step {
+        VStep::Unmap { span } => matches!(want, Gone(start, end) if has_ends(span, start, end)),
+        VStep::Remap {
+            span,
+            before,
+            after,
+        } => match want {
+            Kept(start, end, left, right) => {
+                has_ends(span, start, end) && is_kept(before, left) && is_kept(after, right)
+            }
+            _ => false,
+        },
+        VStep::Map { span, b, off } => match want {
+            Made(start, end, buffer, first) => {
+                has_ends(span, start, end) && b == buffer && off == first
+            }
+            _ => false,
+        },
     }
 }
 
 /// Asserts that the steps are these.
 fn assert_told(rt: &impl Abort, steps: &[VStep], want: &[Told]) {
     ensure(rt, steps.len() == want.len());
-    for (step, told) in steps.iter().zip(want) {
-        ensure(rt, is_told(*step, *told));
+    for place in 0..steps.len() {
+        ensure(rt, is_told(steps[place], want[place]));
     }
 }
 
