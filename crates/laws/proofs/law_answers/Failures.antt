@@ -139,6 +139,26 @@ emptied_unready script cmd b x v h =
     by true false e f = cc
     by false q e f = refl
 
+-- ---- memory types and options told apart
+
+some_alone : {X : Type 0} (x y : X) → Some x ≡ Some y → x ≡ y
+some_alone x y e = cc
+
+some_none : {X : Type 0} (x : X) → Some x ≡ None → ⊥
+some_none x e = cc
+
+system-not-tt : System ≡ Tt → ⊥
+system-not-tt e = cc
+
+system-not-vram : System ≡ Vram → ⊥
+system-not-vram e = cc
+
+tt-not-vram : Tt ≡ Vram → ⊥
+tt-not-vram e = cc
+
+vram-not-tt : Vram ≡ Tt → ⊥
+vram-not-tt e = cc
+
 -- ---- of a thread
 
 module _ (script : Script) (s : State) (t : ℕ) (cmd : Command) (here : IsSome (course_of s t)) (at : command_of script t (course s t) ≡ Some cmd) (at_work : command_at_work script s t ≡ Some cmd) (known : Known script s) (carrying : Carrying script s)
@@ -147,7 +167,7 @@ module _ (script : Script) (s : State) (t : ℕ) (cmd : Command) (here : IsSome 
   Goes k c = (x : Command) → command_of script t c ≡ Some x → Fares script (after script s t k) c x
 
   same_command : (c : Course) (x : Command) → c.answered ≡ (course s t).answered → command_of script t c ≡ Some x → cmd ≡ x
-  same_command c x l e = let it : Some cmd ≡ Some x = sym (ap (slice_get (commands_of script t)) l ∙ at) ∙ e in cc
+  same_command c x l e = some_alone cmd x (sym (ap (slice_get (commands_of script t)) l ∙ at) ∙ e)
 
   goes_empty : (k : Kind) → Goes k (on_to_next (course s t))
   goes_empty k x e = record { away = λ b h some. absurd (clash (sym h)); failed = λ d f. absurd (none_fails (on_to_next (course s t)).fail d refl f) }
@@ -162,9 +182,6 @@ module _ (script : Script) (s : State) (t : ℕ) (cmd : Command) (here : IsSome 
 
   not_whole : (b : BufId) → first_missing (course s t) cmd ≡ Some b → (d : Deny) → (course s t).fail ≡ Some d → ⊥
   not_whole b q d f = some_none b (sym q ∙ (fares.failed d f).works.whole)
-    where
-      some_none : (b : BufId) → Some b ≡ None → ⊥
-      some_none b e = cc
 
   fine : (course s t).fail ≡ None → (d : Deny) → (course s t).fail ≡ Some d → ⊥
   fine e d f = none_fails (course s t).fail d e f
@@ -203,10 +220,7 @@ module _ (script : Script) (s : State) (t : ℕ) (cmd : Command) (here : IsSome 
 
   -- what is held and has targets is that one
   only_first : (b d : BufId) → first_unready script s cmd ≡ Some b → has_buffer (course s t).held d ≡ true → has_some_target (buffer s d) ≡ true → d ≡ b
-  only_first b d u h some = let w = carrying.carried t cmd d at h some in one d b (sym w.first ∙ u)
-    where
-      one : (x y : BufId) → Some x ≡ Some y → x ≡ y
-      one x y e = cc
+  only_first b d u h some = let w = carrying.carried t cmd d at h some in some_alone d b (sym w.first ∙ u)
 
   goes_first : (k : Kind) (c : Course) (b : BufId) → SameLock (course s t) c → first_unready script s cmd ≡ Some b → ((d : BufId) → same_buffer b d ≡ false → buffer (after script s t k) d ≡ buffer s d)
       → (has_some_target (buffer (after script s t k) b) ≡ true → IsAway script c cmd b (buffer (after script s t k) b)) → ((d : Deny) → c.fail ≡ Some d → HasUnready script (after script s t k) c cmd) → Goes k c
@@ -367,37 +381,37 @@ module _ (script : Script) (s : State) (t : ℕ) (cmd : Command) (here : IsSome 
 
   -- back from TT, or to another place of it
   unbound_away : {P : Mem → Type 0} (b : BufId) (x : Buffer) → (course s t).fail ≡ None → x.mem ≡ Tt → (has_target System x || has_target Tt x) ≡ true → has_all_frames x ≡ true → Carried P x → has_some_target (unbound x) ≡ true → IsAway script (course s t) cmd b (unbound x)
-  unbound_away b x none m g a (system_tt e ts f) some = absurd (let z : System ≡ Tt = sym e ∙ m in cc)
-  unbound_away b x none m g a (system_vram e ts f) some = absurd (let z : System ≡ Tt = sym e ∙ m in cc)
-  unbound_away b x none m g a (system_both e ts f) some = absurd (let z : System ≡ Tt = sym e ∙ m in cc)
-  unbound_away b x none m g a (vram_vram e ts f) some = absurd (let z : Vram ≡ Tt = sym e ∙ m in cc)
-  unbound_away b x none m g a (vram_tt e ts f) some = absurd (let z : Vram ≡ Tt = sym e ∙ m in cc)
-  unbound_away b x none m g a (vram_system e ts f) some = absurd (let z : Vram ≡ Tt = sym e ∙ m in cc)
-  unbound_away b x none m g a (vram_both e ts f) some = absurd (let z : Vram ≡ Tt = sym e ∙ m in cc)
+  unbound_away b x none m g a (system_tt e ts f) some = absurd (system-not-tt (sym e ∙ m))
+  unbound_away b x none m g a (system_vram e ts f) some = absurd (system-not-tt (sym e ∙ m))
+  unbound_away b x none m g a (system_both e ts f) some = absurd (system-not-tt (sym e ∙ m))
+  unbound_away b x none m g a (vram_vram e ts f) some = absurd (vram-not-tt (sym e ∙ m))
+  unbound_away b x none m g a (vram_tt e ts f) some = absurd (vram-not-tt (sym e ∙ m))
+  unbound_away b x none m g a (vram_system e ts f) some = absurd (vram-not-tt (sym e ∙ m))
+  unbound_away b x none m g a (vram_both e ts f) some = absurd (vram-not-tt (sym e ∙ m))
   unbound_away b x none m g a (tt_system e ts f) some = absurd (clash (sym some ∙ some_is (unbound x) false false false (refl, ts.1, ts.2)))
   unbound_away b x none m g a (tt_tt e ts f) some = on_its_way_back none refl ts.1 a
   unbound_away b x none m g a (tt_vram e ts f) some = absurd (clash (sym g ∙ ap₂ (λ p q. p || q) ts.0 ts.1))
 
   -- in VRAM there is no further target
   up_bare : {P : Mem → Type 0} (job : JobId) (x : Buffer) → x.mem ≡ Tt → (has_target System x || has_target Tt x) ≡ false → Carried P x → has_some_target (moved Vram job x) ≡ false
-  up_bare job x m g (system_tt e ts f) = absurd (let z : System ≡ Tt = sym e ∙ m in cc)
-  up_bare job x m g (system_vram e ts f) = absurd (let z : System ≡ Tt = sym e ∙ m in cc)
-  up_bare job x m g (system_both e ts f) = absurd (let z : System ≡ Tt = sym e ∙ m in cc)
-  up_bare job x m g (vram_vram e ts f) = absurd (let z : Vram ≡ Tt = sym e ∙ m in cc)
-  up_bare job x m g (vram_tt e ts f) = absurd (let z : Vram ≡ Tt = sym e ∙ m in cc)
-  up_bare job x m g (vram_system e ts f) = absurd (let z : Vram ≡ Tt = sym e ∙ m in cc)
-  up_bare job x m g (vram_both e ts f) = absurd (let z : Vram ≡ Tt = sym e ∙ m in cc)
+  up_bare job x m g (system_tt e ts f) = absurd (system-not-tt (sym e ∙ m))
+  up_bare job x m g (system_vram e ts f) = absurd (system-not-tt (sym e ∙ m))
+  up_bare job x m g (system_both e ts f) = absurd (system-not-tt (sym e ∙ m))
+  up_bare job x m g (vram_vram e ts f) = absurd (vram-not-tt (sym e ∙ m))
+  up_bare job x m g (vram_tt e ts f) = absurd (vram-not-tt (sym e ∙ m))
+  up_bare job x m g (vram_system e ts f) = absurd (vram-not-tt (sym e ∙ m))
+  up_bare job x m g (vram_both e ts f) = absurd (vram-not-tt (sym e ∙ m))
   up_bare job x m g (tt_system e ts f) = absurd (clash (sym (ap₂ (λ p q. p || q) ts.0 ts.1) ∙ g))
   up_bare job x m g (tt_tt e ts f) = absurd (clash (sym (ap₂ (λ p q. p || q) ts.0 ts.1) ∙ g))
   up_bare job x m g (tt_vram e ts f) = some_is (moved Vram job x) false false false (ts.0, ts.1, refl)
 
   across_bare : {P : Mem → Type 0} (job : JobId) (x : Buffer) → x.mem ≡ Vram → has_target Vram x ≡ true → Carried P x → has_some_target (moved Vram job x) ≡ false
-  across_bare job x m g (system_tt e ts f) = absurd (let z : System ≡ Vram = sym e ∙ m in cc)
-  across_bare job x m g (system_vram e ts f) = absurd (let z : System ≡ Vram = sym e ∙ m in cc)
-  across_bare job x m g (system_both e ts f) = absurd (let z : System ≡ Vram = sym e ∙ m in cc)
-  across_bare job x m g (tt_system e ts f) = absurd (let z : Tt ≡ Vram = sym e ∙ m in cc)
-  across_bare job x m g (tt_tt e ts f) = absurd (let z : Tt ≡ Vram = sym e ∙ m in cc)
-  across_bare job x m g (tt_vram e ts f) = absurd (let z : Tt ≡ Vram = sym e ∙ m in cc)
+  across_bare job x m g (system_tt e ts f) = absurd (system-not-vram (sym e ∙ m))
+  across_bare job x m g (system_vram e ts f) = absurd (system-not-vram (sym e ∙ m))
+  across_bare job x m g (system_both e ts f) = absurd (system-not-vram (sym e ∙ m))
+  across_bare job x m g (tt_system e ts f) = absurd (tt-not-vram (sym e ∙ m))
+  across_bare job x m g (tt_tt e ts f) = absurd (tt-not-vram (sym e ∙ m))
+  across_bare job x m g (tt_vram e ts f) = absurd (tt-not-vram (sym e ∙ m))
   across_bare job x m g (vram_vram e ts f) = some_is (moved Vram job x) false false false (ts.0, ts.1, refl)
   across_bare job x m g (vram_tt e ts f) = absurd (clash (sym g ∙ ts.2))
   across_bare job x m g (vram_system e ts f) = absurd (clash (sym g ∙ ts.2))
@@ -431,8 +445,8 @@ module _ (script : Script) (s : State) (t : ℕ) (cmd : Command) (here : IsSome 
     where
       vram_is : (m : Mem) → same_mem m Vram ≡ true → m ≡ Vram
       vram_is Vram h = refl
-      vram_is Tt h = cc
-      vram_is System h = cc
+      vram_is Tt h = absurd (clash (sym h))
+      vram_is System h = absurd (clash (sym h))
 
   untaken_meets : (m : Mem) (b : BufId) (x : Buffer) → meets script cmd b (with_spans m None x) ≡ meets script cmd b x
   untaken_meets m b x = meets_alike script cmd b (with_spans m None x) x refl refl
@@ -447,13 +461,10 @@ module _ (script : Script) (s : State) (t : ℕ) (cmd : Command) (here : IsSome 
   goes x k (lock m n f) (reserves {b} l free) =
       goes_clear k _
       (λ d h. ⊎_elim
-      (λ held. false_from_ne_true (has_some_target (buffer s d)) (λ some. let w = carrying.carried t cmd d at held some in not_none b (sym f ∙ w.works.whole)))
+      (λ held. false_from_ne_true (has_some_target (buffer s d)) (λ some. let w = carrying.carried t cmd d at held some in some_none b (sym f ∙ w.works.whole)))
       (λ q. false_from_ne_true (has_some_target (buffer s d)) (λ some. carrying.targets d some (subst (λ z. (reservation s z).holder ≡ None) (sym q) free)))
       (has_pushed (course s t).held b d h))
       (not_whole b f)
-    where
-      not_none : (b : BufId) → Some b ≡ None → ⊥
-      not_none b e = cc
   goes x k (lock m n f) (backs {b} l h q) = goes_clear k _ (λ d h. absurd (clash (sym h))) (not_whole b f)
   goes x k turn (seeks {b} {aim} sought) = goes_sought b aim k turn sought
   goes x k turn (fills {b} filled) = goes_filled b k turn filled

@@ -1,5 +1,6 @@
 -- A legal journal has at most as many entries as the measure of the first state says, and the simulator's own schedule ends.
 use Rattle.std.proofs.Common.{◌≡◌, subst, ℕ, ◌<◌, ◌≤◌, ◌+◌, zero, suc, Bool, true, false, List, [], ◌∷◌, Option, Some, None, Result, Ok, Err, refl, sym, ◌∙◌, ap, arith, ◌⊎◌, inl, inr, ⊎_elim}
+use Rattle.std.proofs.lemmas.Bool.{false≢true}
 use Rattle.std.specs.Prelude.{length, find, slice_get, is_ok}
 use Rattle.ttm_base.specs.declared.Actor.{Actor}
 use Rattle.ttm_base.specs.declared.Need.{Need}
@@ -17,6 +18,13 @@ use Rattle.journal_model.specs.statements.Scheduled.{Run, run_of, stepped, appen
 use Rattle.laws.proofs.law_state.Shown.{shown_alike}
 use Rattle.laws.proofs.law_sound.Measure.{measure}
 
+-- an entry that is shown is one alone, and is no need
+ok_is : (r : Result Entry Need) (x y : Entry) → r ≡ Ok x → r ≡ Ok y → x ≡ y
+ok_is r x y e f = cc
+
+err_ok : (n : Need) (r : Result Entry Need) (x : Entry) → r ≡ Err n → r ≡ Ok x → ⊥
+err_ok n r x e f = cc
+
 -- an invariant, and the two laws that the kinds' lemmas give
 module _ (script : Script) (Inv : State → Type 0)
     (keeps : (s : State) (who : Actor) (k : Kind) → Inv s → next script s who ≡ Ok k → Inv (applied script s who k))
@@ -27,9 +35,9 @@ module _ (script : Script) (Inv : State → Type 0)
     where
       by_step : (r : Result Kind Need) → next script w.state e.who ≡ r → shown_step script w e.who r ≡ Ok e → (k : Kind) × (next script w.state e.who ≡ Ok k) × ((world_after script w e).state ≡ applied script w.state e.who k)
       by_step (Ok k) n h =
-          let it : (record { who = e.who; kind = showing script w.stores w.state e.who k }) ≡ e = cc in
+          let it : (record { who = e.who; kind = showing script w.stores w.state e.who k }) ≡ e = ok_is (shown_step script w e.who (Ok k)) _ e refl h in
           (k, n, ap (λ f. applied script w.state f.who f.kind) (sym it) ∙ shown_alike script w.stores w.state w.state e.who k)
-      by_step (Err need) n h = cc
+      by_step (Err need) n h = absurd (err_ok need (shown_step script w e.who (Err need)) e refl h)
 
   pub next_falls : (w : World) (e : Entry) → Inv w.state → IsLegalNext script w e →
       Inv (world_after script w e).state × (measure script (world_after script w e).state + 1 ≤ measure script w.state)
@@ -85,7 +93,7 @@ module _ (script : Script) (Inv : State → Type 0)
       by_step (Ok k) n c =
           let same : applied script r.world.state who (showing script r.world.stores r.world.state who k) ≡ applied script r.world.state who k = shown_alike script r.world.stores r.world.state r.world.state who k in
           subst (λ s. measure script s + 1 ≤ measure script r.world.state) (sym same) (falls r.world.state who k sound n)
-      by_step (Err need) n c = cc
+      by_step (Err need) n c = absurd (false≢true c)
 
   module _ (sound_first : Inv (first_state script))
       (goes : (s : State) → Inv s → is_over script s ≡ false → (who : Actor) × (find (can_step script s) (own_order script s) ≡ Some who) × (can_step script s who ≡ true))

@@ -3,6 +3,7 @@ use Rattle.std.proofs.Common.{◌≡◌, ℕ, ◌+◌, ◌<◌, ◌≤◌, zero,
 use Rattle.std.specs.Prelude.{slice_get, slice_set, map, not, ◌==◌, ◌&&◌, unwrap_or, option_and_then, replicate}
 use Rattle.std.specs.List.{list_all}
 use Rattle.std.proofs.lemmas.Grind.{common_steps}
+use Rattle.std.proofs.lemmas.Bool.{false≢true}
 use Rattle.std.proofs.lemmas.Bool.Decides.{nat_tests}
 use Rattle.ttm_base.specs.ListWords.{count_from}
 use Rattle.ttm_base.specs.declared.Mem.{Mem}
@@ -258,12 +259,12 @@ engine_jobs : (script : Script) (s : State) (e : ℕ) (k : Kind) → GoodState s
     → GoodJobs script.sizes.engines (applied script s (actor.Engine e) k).last_jobs (applied script s (actor.Engine e) k).core.jobs
 engine_jobs script s e (kind.Packet n k piece) good h q = packet_keeps script s e n k piece good h
 engine_jobs script s e (kind.Done n) good h q = done_keeps script s (record { ctx = e; num = n }) good
-engine_jobs script s e k good h q = cc
+engine_jobs script s e k good h q = absurd (false≢true q)
 
 reaper_jobs : (script : Script) (s : State) (k : Kind) → GoodState script s → is_of_reaper k ≡ true
     → GoodJobs script.sizes.engines (applied script s actor.Reaper k).last_jobs (applied script s actor.Reaper k).core.jobs
 reaper_jobs script s (kind.Reap g) good q = good.jobs
-reaper_jobs script s k good q = cc
+reaper_jobs script s k good q = absurd (false≢true q)
 
 jobs_keep : (script : Script) → Rules script → (s : State) (who : Actor) (k : Kind) → GoodState script s → next script s who ≡ Ok k
     → GoodJobs script.sizes.engines (applied script s who k).last_jobs (applied script s who k).core.jobs

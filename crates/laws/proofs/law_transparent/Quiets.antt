@@ -1,6 +1,7 @@
 -- Entries on a buffer that put no byte and emit no job: made, freed, with targets, caught, bound, unbound, emptied.
 use Rattle.std.proofs.Common.{◌≡◌, ℕ, Bool, true, false, List, [], ◌∷◌, ◌++◌, Option, Some, None, refl, sym, ◌∙◌, ap, inl}
 use Rattle.std.specs.Prelude.{slice_set, not, is_some, unwrap_or, ◌&&◌, ◌||◌, if◌then◌else◌}
+use Rattle.std.proofs.lemmas.Bool.{true≢false}
 use Rattle.ttm_base.specs.declared.Mem.{Mem}
 use Rattle.ttm_base.specs.declared.Mem.TheVariants as mem
 use Rattle.ttm_base.specs.declared.BufId.{BufId}
@@ -40,6 +41,29 @@ use Rattle.laws.proofs.lemma_bytes_view.Viewed.{Viewed}
 use Rattle.laws.proofs.lemma_bytes_view.Tables.{AllFrames}
 use Rattle.laws.proofs.law_transparent.Idles.{choice_free}
 
+-- ---- memory types and options told apart
+
+some_is : (x y : Buffer) → Some x ≡ Some y → x ≡ y
+some_is x y e = cc
+
+system-not-vram : mem.System ≡ mem.Vram → ⊥
+system-not-vram e = cc
+
+system-not-tt : mem.System ≡ mem.Tt → ⊥
+system-not-tt e = cc
+
+tt-not-vram : mem.Tt ≡ mem.Vram → ⊥
+tt-not-vram e = cc
+
+vram-not-tt : mem.Vram ≡ mem.Tt → ⊥
+vram-not-tt e = cc
+
+last_none : (p q r : Bool) → (p || q || r) ≡ false → r ≡ false
+last_none false false false h = refl
+last_none false false true h = cc
+last_none false true r h = cc
+last_none true q r h = cc
+
 module _ (script : Script) (c : Core) (owed_probes : OwedProbes) (m : Memory) (bytes : pages.PageBytes) (u : Viewed script c owed_probes m bytes) (held : AreHeldOnce script c) where
   before : HeldOnce (bare c)
   before = held_once script (bare c) held
@@ -78,7 +102,7 @@ module _ (script : Script) (c : Core) (owed_probes : OwedProbes) (m : Memory) (b
         AreHeldOnce script (record c { buffers = slice_set c.buffers b.0 None; ghosts = (if q then c.ghosts else c.ghosts ++ ghost_of_freed c x gn ∷ []) }) →
         Viewed script (record c { buffers = slice_set c.buffers b.0 None; ghosts = (if q then c.ghosts else c.ghosts ++ ghost_of_freed c x gn ∷ []) }) owed_probes (with_zeros b m) bytes
     left_viewed gn false e full once = leave_viewed script c owed_probes m bytes u b x is gn held once full
-    left_viewed gn true e full once = cc
+    left_viewed gn true e full once = absurd (true≢false e)
 
     -- ---- targets
 
@@ -87,19 +111,13 @@ module _ (script : Script) (c : Core) (owed_probes : OwedProbes) (m : Memory) (b
       where
         by : (o : Option (List Span)) → is_some o ≡ false → unwrap_or o [] ≡ []
         by None g = refl
-        by (Some ss) g = cc
-
-    last_none : (p q r : Bool) → (p || q || r) ≡ false → r ≡ false
-    last_none false false false h = refl
-    last_none false false true h = cc
-    last_none false true r h = cc
-    last_none true q r h = cc
+        by (Some ss) g = absurd (true≢false g)
 
     pub take_viewed : Rules script → (l : Mem) (place : Place) (spans : List Span) → place.mem ≡ l → choice script c b place ≡ Some spans → (l ≡ mem.Vram → has_some_target x ≡ false) →
         AreHeldOnce script (record c { buffers = changed (λ y. with_kernel_fences (jobs_before_target c l) (with_spans l (Some spans) y)) c.buffers b }) →
         Viewed script (record c { buffers = changed (λ y. with_kernel_fences (jobs_before_target c l) (with_spans l (Some spans) y)) c.buffers b }) owed_probes m bytes
-    take_viewed r mem.System place spans e ch free once = quiet_viewed (with_spans mem.System (Some spans)) b (target_is_quiet mem.System (λ z. cc) (Some spans)) once
-    take_viewed r mem.Tt place spans e ch free once = quiet_viewed (with_spans mem.Tt (Some spans)) b (target_is_quiet mem.Tt (λ z. cc) (Some spans)) once
+    take_viewed r mem.System place spans e ch free once = quiet_viewed (with_spans mem.System (Some spans)) b (target_is_quiet mem.System system-not-vram (Some spans)) once
+    take_viewed r mem.Tt place spans e ch free once = quiet_viewed (with_spans mem.Tt (Some spans)) b (target_is_quiet mem.Tt tt-not-vram (Some spans)) once
     take_viewed r mem.Vram place spans e ch free once =
         let none : target_spans mem.Vram x ≡ [] = no_target mem.Vram (last_none (has_target mem.System x) (has_target mem.Tt x) (has_target mem.Vram x) (free refl)) in
         let pages = choice_free script c held r b place spans e ch in
@@ -117,13 +135,13 @@ module _ (script : Script) (c : Core) (owed_probes : OwedProbes) (m : Memory) (b
         spared_but script f c b x is once u.view u.good i
         (λ q h w e.
         let both : Some x ≡ Some w.buffer = sym is.live ∙ ap (λ n. live_in c.buffers (record { 0 = n })) e ∙ w.live in
-        let one : x ≡ w.buffer = cc in
+        let one : x ≡ w.buffer = some_is x w.buffer both in
         absurd (ne (ap (λ (y : Buffer). y.mem) one ∙ w.mem)))
         p
 
     pub untake_viewed : (l : Mem) → AreHeldOnce script (record c { buffers = changed (with_spans l None) c.buffers b }) → Viewed script (record c { buffers = changed (with_spans l None) c.buffers b }) owed_probes m bytes
-    untake_viewed mem.System once = quiet_viewed (with_spans mem.System None) b (target_is_quiet mem.System (λ z. cc) None) once
-    untake_viewed mem.Tt once = quiet_viewed (with_spans mem.Tt None) b (target_is_quiet mem.Tt (λ z. cc) None) once
+    untake_viewed mem.System once = quiet_viewed (with_spans mem.System None) b (target_is_quiet mem.System system-not-vram None) once
+    untake_viewed mem.Tt once = quiet_viewed (with_spans mem.Tt None) b (target_is_quiet mem.Tt tt-not-vram None) once
     untake_viewed mem.Vram once =
         let spared : (i p : ℕ) → Spared (aperture c) (aperture (record c { buffers = changed (with_spans mem.Vram None) c.buffers b })) (touched (u.view.left i)) p =
         λ i p. inl (ap (λ (a : pages.Aperture). a p) (aperture_same (with_spans mem.Vram None) (λ y. mapped y.mem y) c b)) in
@@ -140,7 +158,7 @@ module _ (script : Script) (c : Core) (owed_probes : OwedProbes) (m : Memory) (b
 
     pub depopulate_viewed : x.mem ≡ mem.Vram → AreHeldOnce script (record c { buffers = changed without_frames c.buffers b }) → Viewed script (record c { buffers = changed without_frames c.buffers b }) owed_probes m bytes
     depopulate_viewed e once =
-        let spared = spared_so without_frames (λ q. let z : mem.Vram ≡ mem.Tt = sym e ∙ q in cc) once in
+        let spared = spared_so without_frames (λ q. vram-not-tt (sym e ∙ q)) once in
         record {
           view = retitled u.view.fences (owner_of (bare (record c { buffers = changed without_frames c.buffers b }))) u.view;
           good = drop_good script c owed_probes m bytes u.view u.seen u.good without_frames b x is before once (λ i. emptied_place x i e) (λ k. emptied_kept x k e) (λ k. inl refl) refl spared;
@@ -164,7 +182,7 @@ module _ (script : Script) (c : Core) (owed_probes : OwedProbes) (m : Memory) (b
         in_system e =
             let place : (i : ℕ) → page_at (unbound x) i ≡ page_at x i = λ i. sym (stands_by_table x i ne) in
             let kept : (k : ℕ) → kept_in (unbound x).mem (unbound x) k ≡ kept_in x.mem x k = λ k. sym (keeps_none x k ne) in
-            let spared = spared_so unbound (λ q. let z : mem.System ≡ mem.Tt = sym e ∙ q in cc) once in
+            let spared = spared_so unbound (λ q. system-not-tt (sym e ∙ q)) once in
             record {
               view = retitled u.view.fences (owner_of (bare (record c { buffers = changed unbound c.buffers b }))) u.view;
               good = carried_good script c owed_probes m bytes u.view u.seen u.good unbound b x is once (λ k. ap seen (place k)) kept (λ k. refl) place refl spared;

@@ -89,23 +89,23 @@ module _ (script : Script) (s : State) (bytes : Stores) (p : Plain) where
   still_viewed t k e u = absurd (false≢true e)
 
   still_plain : (who : Actor) (k : Kind) → is_still k ≡ true → IsKindPlain script p who k
-  still_plain who (kind.Packet n k piece) e = cc
-  still_plain who (kind.Result r) e = cc
+  still_plain who (kind.Packet n k piece) e = absurd (false≢true e)
+  still_plain who (kind.Result r) e = absurd (false≢true e)
   still_plain who k e = tt
 
   -- what they show is left as it is
   still_shown : (who : Actor) (k : Kind) → is_still k ≡ true → showing script bytes s who k ≡ k
-  still_shown who (kind.Packet n k piece) e = cc
-  still_shown who (kind.Result r) e = cc
+  still_shown who (kind.Packet n k piece) e = absurd (false≢true e)
+  still_shown who (kind.Result r) e = absurd (false≢true e)
   still_shown who k e = refl
 
 -- a command that writes nothing leaves the bytes, and the plain memory
 unwritten : (s : State) (cmd : Command) (bytes : Stores) → is_write cmd ≡ false → written s (Some cmd) bytes ≡ bytes
-unwritten s (command.Write b off values) bytes h = cc
+unwritten s (command.Write b off values) bytes h = absurd (false≢true (sym h))
 unwritten s cmd bytes h = refl
 
 unchanged : (cmd : Command) (m : Memory) → is_write cmd ≡ false → memory_after_result (Some cmd) m ≡ m
-unchanged (command.Write b off values) m h = cc
+unchanged (command.Write b off values) m h = absurd (false≢true (sym h))
 unchanged cmd m h = refl
 
 module _ (script : Script) (r : Rules script) (s : State) (bytes : Stores) (p : Plain) (c : Clear script s bytes p) (known : Known script s) where
@@ -195,11 +195,11 @@ module _ (script : Script) (r : Rules script) (s : State) (bytes : Stores) (p : 
       ∙ sym (ap (λ o. bytes_owed o p.memory) (at_plain t (command.Read b off len) e))
 
   owes_none : (cmd : Command) → is_read cmd ≡ false → bytes_owed (Some cmd) p.memory ≡ None
-  owes_none (command.Read b off len) n = cc
+  owes_none (command.Read b off len) n = absurd (false≢true (sym n))
   owes_none cmd n = refl
 
   result_plain : (t : ℕ) (x : Shown) (cmd : Command) → command_at_work script s t ≡ Some cmd → is_read cmd ≡ false → shows_bytes x ≡ false → IsKindPlain script p (actor.Thread t) (showing script bytes s (actor.Thread t) (kind.Result x))
-  result_plain t (shown.Read values) cmd e n h = cc
+  result_plain t (shown.Read values) cmd e n h = absurd (false≢true (sym h))
   result_plain t shown.Plain cmd e n h = sym (ap (λ o. bytes_owed o p.memory) (at_plain t cmd e) ∙ owes_none cmd n)
   result_plain t (shown.Find mem spans) cmd e n h = sym (ap (λ o. bytes_owed o p.memory) (at_plain t cmd e) ∙ owes_none cmd n)
 
@@ -214,7 +214,7 @@ module _ (script : Script) (r : Rules script) (s : State) (bytes : Stores) (p : 
 
   -- owed_probes of the move engine
   still_owed_probes : (t : ℕ) (k : Kind) → is_still k ≡ true → (plain_after_kind script p t k).owed_probes ≡ p.owed_probes
-  still_owed_probes t (kind.Arm engine n) e = cc
+  still_owed_probes t (kind.Arm engine n) e = absurd (false≢true e)
   still_owed_probes t k e = refl
 
   thread_undue : (t : ℕ) (k : Kind) → Told script s t k → (n i : ℕ) → (plain_after_kind script p t k).owed_probes (record { ctx = 0; num = n }) i ≡ []
@@ -301,7 +301,7 @@ module _ (script : Script) (r : Rules script) (s : State) (bytes : Stores) (p : 
     },
     tt,
   )
-  of_an_engine e k (reap {g}) q h = cc
+  of_an_engine e k (reap {g}) q h = absurd (false≢true q)
 
   of_the_reaper : (k : Kind) → OfWorker k → is_of_reaper k ≡ true → next script s actor.Reaper ≡ Ok k → AreHeldOnce script (applied script s actor.Reaper k).core → Next actor.Reaper k
   of_the_reaper k (reap {g}) q h once = (
@@ -314,8 +314,8 @@ module _ (script : Script) (r : Rules script) (s : State) (bytes : Stores) (p : 
     },
     tt,
   )
-  of_the_reaper k (packet {n} {k = i} {piece}) q h once = cc
-  of_the_reaper k (done {n}) q h once = cc
+  of_the_reaper k (packet {n} {k = i} {piece}) q h once = absurd (false≢true q)
+  of_the_reaper k (done {n}) q h once = absurd (false≢true q)
 
   pub step_clear : (who : Actor) (k : Kind) → next script s who ≡ Ok k → AreHeldOnce script (applied script s who k).core → Next who k
   step_clear (actor.Thread t) k h once = of_thread t k h once
@@ -324,7 +324,7 @@ module _ (script : Script) (r : Rules script) (s : State) (bytes : Stores) (p : 
     where
       left : (a b : Bool) → a ≡ true → (a || b) ≡ true
       left true b h = refl
-      left false b h = cc
+      left false b h = absurd (false≢true h)
   step_clear actor.Reaper k h once =
       let q = of_reaper script s k h in of_the_reaper k (of_worker k (right (is_of_engine k) (is_of_reaper k) q)) q h once
     where

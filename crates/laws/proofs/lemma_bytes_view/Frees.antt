@@ -16,7 +16,6 @@ use Rattle.journal_model.specs.rules.Waits.{same_job, waited_for, jobs_before_re
 use Rattle.journal_model.specs.rules.PlainMemory.{Memory, OwedProbes, with_zeros}
 use Rattle.laws.proofs.law_state.Lists.{set_at}
 use Rattle.laws.proofs.law_owners.Law.{AreHeldOnce}
-use Rattle.laws.specs.lemma_bytes_model.Memory as memory
 use Rattle.laws.specs.lemma_bytes_model.Memory.{Page, Nowhere, Frame, Own, touched, written}
 use Rattle.laws.specs.lemma_bytes_model.View.{View, Good, Fences, Owner, Idle, Free, Live, Kept, Target, Ghost, Guarded, is_fence}
 use Rattle.laws.specs.lemma_bytes_model.Entries.{freed, Fate}

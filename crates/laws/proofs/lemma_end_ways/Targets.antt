@@ -51,6 +51,13 @@ use Rattle.laws.proofs.lemma_end_ways.Spanless.{AreBare, first_live}
 use Rattle.laws.proofs.lemma_end_ways.OnWays.{OnWay, Carrying, others_on_way}
 use Rattle.laws.proofs.lemma_end_ways.Keeps.{LeftPlaces, clear, clear_ready, clear_locking, own_keeps}
 
+-- one that is there is not none, and is one alone
+none_some : {X : Type 0} (x : X) → None ≡ Some x → ⊥
+none_some x e = cc
+
+some_alone : {X : Type 0} (x y : X) → Some x ≡ Some y → x ≡ y
+some_alone x y e = cc
+
 -- what the last victim caught tells of its buffer
 abbrev pub LastWay : State → Course → Type 0
 LastWay s c = (v : Victim) → last_of c.caught ≡ Some v → OnItsWay (buffer s v.b) v.why v.fail
@@ -139,17 +146,17 @@ module _ (script : Script) (s : State) (t : ℕ) (cmd : Command) (here : IsSome 
   banned (command.Free b) e is f d w = clash (sym w.asked ∙ ap asks is)
   banned (command.SwapOut b) e is f d w =
       let member = subst (λ z. has_buffer (named z) d ≡ true) is (has_found (λ y. not (is_ready script s cmd y)) (named cmd) d w.first) in
-      let it : d ≡ b = ⊎_elim (λ q. same_is d b q) (λ q. absurd (let z : false ≡ true = q in cc)) (or_cases (same_buffer d b) false member) in
+      let it : d ≡ b = ⊎_elim (λ q. same_is d b q) (λ q. absurd (clash (sym q))) (or_cases (same_buffer d b) false member) in
       let loose : (reservation s b).pins ≡ 0 = subst (λ z. (reservation s z).pins ≡ 0) it w.loose in
-      let z : None ≡ Some e = sym (ap (λ n. if nat_lt 0 n then Some deny.Pinned else None) loose) ∙ f in cc
-  banned cmd e is f d w = cc
+      let z : None ≡ Some e = sym (ap (λ n. if nat_lt 0 n then Some deny.Pinned else None) loose) ∙ f in none_some e z
+  banned cmd e is f d w = none_some e f
 
   refused_clear : Refusal script s (course s t) cmd → Clear
   refused_clear (ban e f) = is_clear (λ d w some. banned cmd e refl f d w)
   refused_clear (pinned b f u p q) =
       is_clear
       (λ d w some.
-      let it : d ≡ b = (let z : Some d ≡ Some b = sym w.first ∙ u in cc) in
+      let it : d ≡ b = some_alone d b (sym w.first ∙ u) in
       let loose : (reservation s b).pins ≡ 0 = subst (λ z. (reservation s z).pins ≡ 0) it w.loose in
       clash (sym q ∙ ap (λ n. nat_lt 0 n) loose))
 
@@ -157,7 +164,7 @@ module _ (script : Script) (s : State) (t : ℕ) (cmd : Command) (here : IsSome 
   given_clear (bare b u g) =
       is_clear
       (λ d w some.
-      let it : d ≡ b = (let z : Some d ≡ Some b = sym w.first ∙ u in cc) in
+      let it : d ≡ b = some_alone d b (sym w.first ∙ u) in
       clash (sym (subst (λ z. has_some_target (buffer s z) ≡ true) it some) ∙ (or_parts (same_mem (buffer s b).mem Vram && has_frame (buffer s b)) (has_some_target (buffer s b)) g).1))
   given_clear (ready u) = clear_ready script s t cmd here at known spanless carrying places u
 
@@ -169,7 +176,7 @@ module _ (script : Script) (s : State) (t : ℕ) (cmd : Command) (here : IsSome 
     where
       by : (o : Option Buffer) → is_some o ≡ false → has_some_target (unwrap_or o (new_buffer 0)) ≡ false
       by None k = refl
-      by (Some x) k = cc
+      by (Some x) k = absurd (clash k)
 
   makes_held : (b : BufId) → is_live s b ≡ false → Held (kind.New b)
   makes_held b dead d some none =
