@@ -1,7 +1,6 @@
 ghost use Rattle.std.specs.Prelude.{◌≡◌, ◌*◌, length};
 
 use super::difference::{Stop, agree_on};
-use device_core::Device;
 use journal_model::Sizes;
 use room_representation::Parts;
 use rules_stores::{PlainStores, StorePage};
@@ -22,8 +21,8 @@ fn compare_page(
     agree_on(bytes == wanted.as_slice(), what, u64::from(number))
 }
 
-/// Compares each page of VRAM, each frame, and each slot, held or free.
-fn compare_stores(parts: &Parts, sizes: Sizes, stores: &PlainStores) -> Result<(), Stop>
+/// Compares the bytes of each page of VRAM, each frame, and each slot, held or free, with those of `stores`.
+pub fn compare_stores(parts: &Parts, sizes: Sizes, stores: &PlainStores) -> Result<(), Stop>
     requires vram { length parts.now.stores.vram ≡ 4096 * sizes.vram }
     requires frames { length parts.now.stores.frames ≡ 4096 * sizes.frames }
     requires slots { length parts.now.swap.held ≡ sizes.swap }
@@ -45,9 +44,4 @@ fn compare_stores(parts: &Parts, sizes: Sizes, stores: &PlainStores) -> Result<(
         found = found.and(compare_page(stores, page, bytes, "other bytes in slot", n));
     }
     found
-}
-
-/// Compares the bytes of each page, frame and slot of `device` with those of `stores`.
-pub fn compare_bytes(device: &Device, stores: &PlainStores) -> Result<(), Stop> {
-    compare_stores(device.rooms().parts(), device.script().sizes, stores)
 }

@@ -1,7 +1,7 @@
 ghost use Rattle.std.specs.Prelude.{OnOk, IfOk};
 ghost use Rattle.test_device.specs.Steps.{AreInStep};
 
-use super::bytes::compare_bytes;
+use super::bytes::compare_stores;
 use super::difference::{Stop, agree, agree_all, agree_on};
 use super::parts::compare_parts;
 use super::replay::Replay;
@@ -190,8 +190,10 @@ impl Pair {
     pub fn compare_end(&self) -> Result<(), Stop>
         requires { AreInStep self.now.replay.plain self.now.replay.rooms }
     {
+        let device = &self.asked.device;
+        let parts = device.rooms().parts();
         self.compare_told()
-            .and(compare_bytes(&self.asked.device, self.replay.plain.stores()))
+            .and(compare_stores(parts, device.script().sizes, self.replay.plain.stores()))
             .and(compare_parts(&self.replay, self.alloc))
     }
 }

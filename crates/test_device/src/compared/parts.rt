@@ -8,7 +8,7 @@ use super::difference::{Stop, agree_all, agree_on};
 use super::replay::Replay;
 use bo_table::BoTable;
 use copy_packet::ProbeBytes;
-use journal_model::{Buffer, Course, Script, State};
+use journal_model::{Course, Script, State};
 use plain_accounts::accounts_of;
 use room_state::Rooms;
 use rules_holds::{free_frame, free_slot, waited_before_read, waited_before_write};
@@ -50,38 +50,28 @@ fn compare_pages(replay: &Replay, b: BufId, seen: &mut ProbeBytes) -> Result<(),
     found
 }
 
-/// Compares the jobs to wait for before a live buffer is used.
-fn compare_needs(replay: &Replay, b: BufId, buffer: &Buffer) -> Result<(), Stop>
-    requires { b.0 < length replay.now.rooms.script.buffers }
-{
-    let core = &replay.plain.state().core;
-    let rooms = &replay.rooms;
-    let before_write = rooms.need(b, Usage::Write) == waited_before_write(core, buffer);
-    let before_read = rooms.need(b, Usage::Read) == waited_before_read(core, buffer);
-    agree_on(
-        before_write & before_read,
-        "other jobs before buffer",
-        u64::from(b.0),
-    )
-}
-
 /// Returns whether the table has a live buffer of that number.
 fn is_alive(bos: &BoTable, b: BufId) -> bool {
     (b.0 as usize) < bos.len() && bos.get(b).alive
 }
 
-/// Compares what is to be known of buffer `b`.
+/// Compares what is to be known of buffer `b`: whether it is live, and if it is, the jobs to wait for before it is used, and its bytes.
 fn compare_buffer(replay: &Replay, b: BufId, seen: &mut ProbeBytes) -> Result<(), Stop>
     requires step { AreInStep replay.now.plain replay.now.rooms }
     requires declared { b.0 < length replay.now.rooms.script.buffers }
 {
-    let alive = is_alive(replay.rooms.bos(), b);
-    match live_in(replay.plain.state().core.buffers.items(), b) {
-        Some(buffer) => agree_on(alive, "another life of buffer", u64::from(b.0))
-            .and(compare_needs(replay, b, buffer))
-            .and(compare_pages(replay, b, seen)),
-        None => agree_on(!alive, "another life of buffer", u64::from(b.0)),
-    }
+    let number = u64::from(b.0);
+    let rooms = &replay.rooms;
+    let core = &replay.plain.state().core;
+    let alive = is_alive(rooms.bos(), b);
+    let Some(buffer) = live_in(core.buffers.items(), b) else {
+        return agree_on(!alive, "another life of buffer", number);
+    };
+    let same_write = rooms.need(b, Usage::Write) == waited_before_write(core, buffer);
+    let same_read = rooms.need(b, Usage::Read) == waited_before_read(core, buffer);
+    agree_on(alive, "another life of buffer", number)
+        .and(agree_on(same_write & same_read, "other jobs before buffer", number))
+        .and(compare_pages(replay, b, seen))
 }
 
 /// Counts the declared buffers. No script that has a spelling declares more than 32 bits hold.

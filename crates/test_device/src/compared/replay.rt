@@ -38,14 +38,6 @@ fn next_entry(alloc: Global, plain: &Device, who: Actor) -> Result<Result<Entry,
     }
 }
 
-/// Returns the actor whose turn it is on the plain device, which is asked once more where memory was lacking.
-fn next_actor(plain: &Device) -> Result<Option<Actor>, NoMemory> {
-    match plain.next_actor() {
-        Ok(found) => Ok(found),
-        Err(NoMemory) => plain.next_actor(),
-    }
-}
-
 impl Replay {
     /// Makes a device and parts that run the script of a text, which is read for each, and haven't begun.
     ///
@@ -108,7 +100,7 @@ impl Replay {
         }
     }
 
-    /// Takes a turn in the simulator's order, which the parts follow. Returns the actor that has an entry, if some actor has one.
+    /// Takes a turn in the simulator's order, which the parts follow. Where memory was lacking the device is asked once more. Returns the actor that has an entry, if some actor has one.
     ///
     /// # Errors
     ///
@@ -117,12 +109,13 @@ impl Replay {
         requires { AreInStep self.old.plain self.old.rooms }
         ensures { OnOk result (AreInStep self.new.plain self.new.rooms) }
     {
-        match next_actor(&self.plain)? {
-            Some(who) => {
-                self.step(who)?;
-                Ok(Some(who))
-            }
-            None => Ok(None),
+        let found = match self.plain.next_actor() {
+            Ok(found) => found,
+            Err(NoMemory) => self.plain.next_actor()?,
+        };
+        if let Some(who) = found {
+            self.step(who)?;
         }
+        Ok(found)
     }
 }

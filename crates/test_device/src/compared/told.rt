@@ -89,7 +89,7 @@ fn print_aperture(rt: &impl Print, rooms: &Rooms) -> io::Result<()> {
     print!(rt; "aperture")?;
     for page in 0..rooms.script().sizes.tt {
         let (words, number) = match aperture.get(page) {
-            Some(frame) => ("", Some(u64::from(frame))),
+            Some(frame) => ("", Some(frame as u64)),
             None => (" -", None),
         };
         print_numbered(rt, words, number)?;

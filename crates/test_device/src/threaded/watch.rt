@@ -51,20 +51,17 @@ impl Watch {
         self.is_missed.store(true, SeqCst);
     }
 
-    /// Raises the flag `own`, and waits for `other`.
-    fn meet(&self, own: &AtomicBool, other: &AtomicBool) {
-        own.store(true, SeqCst);
-        self.wait(other);
-    }
-
     /// Holds `worker` before its turn `turn`, if the gate holds it there.
     fn hold(&self, worker: u32, turn: u64) {
         match (self.hold, worker, turn) {
-            (Hold::UntilTheyMeet, 1, 1) | (Hold::InBatchOfFirst, 1, 2) => self.meet(
-                &self.first,
-                &self.second,
-            ),
-            (Hold::UntilTheyMeet, 2, 1) => self.meet(&self.second, &self.first),
+            (Hold::UntilTheyMeet, 1, 1) | (Hold::InBatchOfFirst, 1, 2) => {
+                self.first.store(true, SeqCst);
+                self.wait(&self.second);
+            }
+            (Hold::UntilTheyMeet, 2, 1) => {
+                self.second.store(true, SeqCst);
+                self.wait(&self.first);
+            }
             (Hold::UntilSeventhOf(ahead), _, 7) if worker == ahead => self
                 .first
                 .store(true, SeqCst),

@@ -58,8 +58,8 @@ fn raised_to(turns: &Turns<Counter>, pass: &mut Pass<Counter>, num: u64) -> (boo
     (first, second)
 }
 
-/// Prints what one pass sees of the fence words that another raises, after three jobs.
-fn print_fences(rt: &(impl Wait + Print), alloc: Global) -> io::Result<()> {
+/// Prints the case's `name`, and what one pass sees of the fence words that another raises, after three jobs.
+fn print_fences(rt: &(impl Wait + Print), alloc: Global, name: &str) -> io::Result<()> {
     let (turns, mut pass) = lock_of(alloc, 10, 0)?;
     let mut other = turns.split(&mut pass);
     job_of(rt, &turns, &mut pass);
@@ -71,7 +71,7 @@ fn print_fences(rt: &(impl Wait + Print), alloc: Global) -> io::Result<()> {
     turns.join(&mut pass, other);
     let entries = turns.close(rt, pass).count();
     println!(rt;
-        "raised to 1, 2, 3, 4: {first}, {second}, {third}, {fourth}, seen by another pass to 3: {others}, {entries} entries"
+        "case {name}\nraised to 1, 2, 3, 4: {first}, {second}, {third}, {fourth}, seen by another pass to 3: {others}, {entries} entries"
     )
 }
 
@@ -91,9 +91,7 @@ fn print_one_worker(rt: &(impl Wait + Print), alloc: Global) -> io::Result<()> {
 
 /// Runs a turn lock without threads, and prints what is seen of its fence words.
 pub fn run_alone(rt: &(impl Wait + Print), alloc: Global, case: &Case) -> io::Result<()> {
-    let name = case.name.as_str();
-    println!(rt; "case {name}")?;
-    print_fences(rt, alloc)?;
+    print_fences(rt, alloc, case.name.as_str())?;
     print_one_worker(rt, alloc)
 }
 
