@@ -13,7 +13,7 @@ use Rattle.journal_model.specs.scripts.Reading.{names_of}
 use Rattle.journal_model.specs.declared.script.MarkKind.TheVariants as mark
 use Rattle.journal_model.specs.scripts.MarkRules.{ThreadMappings, empty_thread_mappings, thread_mappings_after, thread_mappings_at_end}
 use Rattle.journal_model.specs.scripts.FirstFault.{or_first, or_zero}
-use Rattle.journal_model.specs.scripts.LineRules.{lacks_number, lacks_name, has_range_fault, is_one_too_many, is_too_long, lacks_page}
+use Rattle.journal_model.specs.scripts.LineRules.{lacks_number, lacks_name, has_range_fault, is_one_too_many, is_too_long, lacks_page, rule_broken}
 use Rattle.script_rules.specs.script_mappings.ThreadMappingLists.{Seen, IsThreadMappings}
 use Rattle.script_text.specs.declared.ScriptFault.{ScriptFault}
 use Rattle.script_text.specs.declared.ScriptFault.TheVariants as fault
@@ -67,6 +67,11 @@ pub record IsClean (p : Progress) (l : Line) : Type 0 where
   pub short : is_too_long p l ≡ false
   pub mapped : lacks_page (thread_mappings_at_end p.script) l ≡ false
   pub said : HasRanges l
+
+-- a line breaks the rule and nothing is mapped by it, or it breaks none and its mappings are followed
+abbrev pub IsJudged : Option ℕ → Seen → Progress → Line → Type 0
+IsJudged None seen p l = (rule_broken p l ≡ None) × IsThreadMappings seen (thread_mappings_next (thread_mappings_at_end p.script) l)
+IsJudged (Some rule) seen p l = (rule_broken p l ≡ Some rule) × IsKnown seen p
 
 -- a line that is taken leads on, another breaks its rule
 abbrev pub Leads : Option ℕ → Progress → Result Progress ℕ → Type 0

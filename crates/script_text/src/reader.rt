@@ -3,14 +3,14 @@
 ghost use Rattle.std.specs.Prelude.{◌≡◌, ◌≤◌, ◌<◌, ◌+◌, ◌-◌, bytes_eq, false, not, nat_lt, sum_by, ◌==◌, ◌++◌, ◌∷◌, [], IfOk, OnOk, length, take};
 ghost use Rattle.std.specs.List.{list_any};
 ghost use Rattle.journal_model.specs.scripts.LineWords.{keyword_of};
-ghost use Rattle.journal_model.specs.scripts.FirstFault.{with_buffer, with_command, with_submit, with_line, first_word, after_words, nothing_read, is_behind_end};
-ghost use Rattle.journal_model.specs.scripts.LineRules.{len_of_word, is_too_long};
+ghost use Rattle.journal_model.specs.scripts.FirstFault.{with_buffer, with_command, with_submit, with_line, first_word, after_words, nothing_read, is_behind_end, unless_broken};
+ghost use Rattle.journal_model.specs.scripts.LineRules.{len_of_word, is_too_long, rule_broken};
 ghost use Rattle.journal_model.specs.rules.Commands.{commands_of};
 ghost use Rattle.journal_model.specs.scripts.MarkRules.{thread_mappings_at_end};
 ghost use Rattle.script_rules.specs.script_mappings.ThreadMappingLists.{IsThreadMappings};
 ghost use Rattle.journal_model.specs.scripts.Cut.{cut_at};
 ghost use Rattle.script_text.specs.Fronts.{ends_at, shown_len};
-ghost use Rattle.script_text.specs.Steps.{IsSteady, IsKnown, IsClean, Leads, thread_mappings_next};
+ghost use Rattle.script_text.specs.Steps.{IsSteady, IsKnown, IsClean, IsJudged, HasRanges, Leads, thread_mappings_next};
 
 use crate::marks::{follow, put_access, put_mark_line, put_vsubmit};
 use crate::values::{
@@ -392,6 +392,68 @@ fn keyword_of_line(words: &[Word]) -> Keyword
     }
 }
 
+/// Returns the least rule that `line` breaks. Where it breaks none, `thread_mappings` become what the thread at work has mapped after it.
+fn judge(
+    alloc: Global,
+    names: &Names,
+    thread_mappings: &mut ThreadMappings,
+    progress: &Progress,
+    line: &Line,
+) -> Result<Option<u32>, NoMemory>
+    requires steady { IsSteady names.now progress.now }
+    requires known { IsKnown thread_mappings.old progress.now }
+    requires said { HasRanges line.now }
+    ensures { IfOk result (λ rule. IsJudged rule thread_mappings.new progress.now line.now) }
+{
+    if let Some(rule) = broken(alloc, names, thread_mappings, progress, line)? {
+        return Ok(Some(rule));
+    }
+    follow(alloc, thread_mappings, progress, line)?;
+    Ok(None)
+}
+
+/// Takes `line`, or returns the least rule that it breaks.
+fn take_line(
+    alloc: Global,
+    known: &mut Known,
+    progress: &mut Progress,
+    line: Line,
+) -> Result<Option<u32>, NoMemory>
+    requires steady { IsSteady known.old.names progress.old }
+    requires known { IsKnown known.old.thread_mappings progress.old }
+    requires said { HasRanges line }
+    ensures leads { IfOk result (λ rule. Leads rule progress.new (unless_broken (rule_broken progress.old line) (with_line progress.old line))) }
+    ensures steady { OnOk result (IsSteady known.new.names progress.new) }
+    ensures known { OnOk result (IsKnown known.new.thread_mappings progress.new) }
+{
+    match judge(
+        alloc,
+        &known.names,
+        &mut known.thread_mappings,
+        progress,
+        &line,
+    ) {
+        Ok(None) => {
+            accept(
+                alloc,
+                &mut known.names,
+                &known.thread_mappings,
+                progress,
+                line,
+            )?;
+            Ok(None)
+        }
+        Ok(Some(rule)) => {
+            drop(line);
+            Ok(Some(rule))
+        }
+        Err(NoMemory) => {
+            drop(line);
+            Err(NoMemory)
+        }
+    }
+}
+
 /// Takes the words of a line, or returns the least rule that they break.
 fn take_words(
     alloc: Global,
@@ -409,21 +471,10 @@ fn take_words(
     if !can_come(progress.script.version, progress.phase, keyword) {
         return Ok(Some(3));
     }
-    let Some(line) = line(alloc, &known.names, &progress.script, keyword, words)? else {
-        return Ok(Some(4));
-    };
-    if let Some(rule) = broken(alloc, &known.names, &known.thread_mappings, progress, &line)? {
-        return Ok(Some(rule));
+    match line(alloc, &known.names, &progress.script, keyword, words)? {
+        Some(line) => take_line(alloc, known, progress, line),
+        None => Ok(Some(4)),
     }
-    follow(alloc, &mut known.thread_mappings, progress, &line)?;
-    accept(
-        alloc,
-        &mut known.names,
-        &known.thread_mappings,
-        progress,
-        line,
-    )?;
-    Ok(None)
 }
 
 /// Takes a line by its front, all but its line feed, or returns the least rule from 3 on that it breaks. The list `words` is left with what
