@@ -364,7 +364,7 @@ impl<S: Side> Node<S> {
 }
 
 impl<S: Side> Taken<S> {
-    /// A node that has no sides any more, and whose level is gone.
+    /// Returns `node`, which has no sides any more, emptied: its level is gone with it.
     fn alone(mut node: Box<Node<S>>) -> Taken<S>
         requires left { node.value.left ≡ no_shape }
         requires right { node.value.right ≡ no_shape }
@@ -392,7 +392,7 @@ fn grown_left<S: Side>(node: &mut Box<Node<S>>, grew: bool) -> bool
     grew && mend_left(node)
 }
 
-/// The same, where the right side has grown.
+/// Does the same where the right side has grown.
 #[inline(always)]
 fn grown_right<S: Side>(node: &mut Box<Node<S>>, grew: bool) -> bool
     requires lean { Leans node.old.value.lean (node.old.value.left.height + (if grew then 1 else 0)) node.old.value.right.height }
@@ -424,7 +424,7 @@ fn shrunk_left<S: Side>(node: &mut Box<Node<S>>, gone: u32, lower: bool) -> bool
     lower && !mend_right(node)
 }
 
-/// The same, where it went from the right side.
+/// Does the same where it went from the right side.
 #[inline(always)]
 fn shrunk_right<S: Side>(node: &mut Box<Node<S>>, gone: u32, lower: bool) -> bool
     requires lean { Leans node.old.value.lean node.old.value.left.height (node.old.value.right.height + (if lower then 1 else 0)) }
