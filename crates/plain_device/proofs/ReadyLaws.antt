@@ -4,7 +4,7 @@ use Rattle.std.specs.Prelude.{slice_get, map, filter, not, ◌==◌, ◌&&◌, �
 use Rattle.std.specs.List.{list_all}
 use Rattle.std.proofs.lemmas.Grind.{common_steps}
 use Rattle.std.proofs.lemmas.Bool.Decides.{nat_tests}
-use Rattle.std.proofs.lemmas.Bool.{cases_lt, cases_eq}
+use Rattle.std.proofs.lemmas.Bool.{cases_lt, false≢true}
 use Rattle.ttm_base.specs.ListWords.{count_from}
 use Rattle.ttm_base.specs.declared.BufId.{BufId}
 use Rattle.ttm_base.specs.declared.JobId.{JobId}
@@ -331,60 +331,13 @@ thread_ready script s n k t (kind.Result shown) h = let st = thread_step script 
 thread_ready script s n k t (kind.Refused d) h = let st = thread_step script s t (kind.Refused d) h in can_answer script s n k t st.cmd st.at_work (thread_is_there script s t (kind.Refused d) h)
 
 engine_ready : (script : Script) (s : State) (n : ℕ) → Known script s n → (e : ℕ) (k : Kind) → is_of_engine k ≡ true → IsReadyFor script s (actor.Engine e) k
-engine_ready script s n k e (kind.Ticket stamp) q = cc
-engine_ready script s n k e (kind.Reserve b) q = cc
-engine_ready script s n k e (kind.Backoff b stamp) q = cc
-engine_ready script s n k e (kind.New b) q = cc
-engine_ready script s n k e (kind.Free b g) q = cc
-engine_ready script s n k e (kind.Take b mem spans) q = cc
-engine_ready script s n k e (kind.Untake b mem) q = cc
-engine_ready script s n k e (kind.Populate b page f) q = cc
-engine_ready script s n k e (kind.SwapIn b page slot f) q = cc
-engine_ready script s n k e (kind.Depopulate b) q = cc
-engine_ready script s n k e (kind.Bind b) q = cc
-engine_ready script s n k e (kind.Unbind b) q = cc
-engine_ready script s n k e (kind.Move b mem m left) q = cc
-engine_ready script s n k e (kind.Catch b w) q = cc
-engine_ready script s n k e (kind.Loose b) q = cc
-engine_ready script s n k e (kind.Skip b) q = cc
-engine_ready script s n k e (kind.Dry b p w) q = cc
-engine_ready script s n k e (kind.SwapOut b page slot) q = cc
-engine_ready script s n k e (kind.NoPages b) q = cc
-engine_ready script s n k e (kind.Arm engine m) q = cc
 engine_ready script s n k e (kind.Packet m p piece) q = can_run script s n k (record { ctx = e; num = m })
 engine_ready script s n k e (kind.Done m) q = tt
-engine_ready script s n k e (kind.Reap g) q = cc
-engine_ready script s n k e (kind.Bulk group) q = cc
-engine_ready script s n k e (kind.Result shown) q = cc
-engine_ready script s n k e (kind.Refused d) q = cc
+engine_ready script s n k e it q = absurd (false≢true q)
 
 reaper_ready : (script : Script) (s : State) (n : ℕ) → Known script s n → (k : Kind) → is_of_reaper k ≡ true → IsReadyFor script s actor.Reaper k
-reaper_ready script s n k (kind.Ticket stamp) q = cc
-reaper_ready script s n k (kind.Reserve b) q = cc
-reaper_ready script s n k (kind.Backoff b stamp) q = cc
-reaper_ready script s n k (kind.New b) q = cc
-reaper_ready script s n k (kind.Free b g) q = cc
-reaper_ready script s n k (kind.Take b mem spans) q = cc
-reaper_ready script s n k (kind.Untake b mem) q = cc
-reaper_ready script s n k (kind.Populate b page f) q = cc
-reaper_ready script s n k (kind.SwapIn b page slot f) q = cc
-reaper_ready script s n k (kind.Depopulate b) q = cc
-reaper_ready script s n k (kind.Bind b) q = cc
-reaper_ready script s n k (kind.Unbind b) q = cc
-reaper_ready script s n k (kind.Move b mem m left) q = cc
-reaper_ready script s n k (kind.Catch b w) q = cc
-reaper_ready script s n k (kind.Loose b) q = cc
-reaper_ready script s n k (kind.Skip b) q = cc
-reaper_ready script s n k (kind.Dry b p w) q = cc
-reaper_ready script s n k (kind.SwapOut b page slot) q = cc
-reaper_ready script s n k (kind.NoPages b) q = cc
-reaper_ready script s n k (kind.Arm engine m) q = cc
-reaper_ready script s n k (kind.Packet m p piece) q = cc
-reaper_ready script s n k (kind.Done m) q = cc
 reaper_ready script s n k (kind.Reap g) q = tt
-reaper_ready script s n k (kind.Bulk group) q = cc
-reaper_ready script s n k (kind.Result shown) q = cc
-reaper_ready script s n k (kind.Refused d) q = cc
+reaper_ready script s n k it q = absurd (false≢true q)
 
 next_ready : (script : Script) (s : State) (n : ℕ) → Known script s n → (who : Actor) (k : Kind) → next script s who ≡ Ok k → IsReadyFor script s who k
 next_ready script s n known (actor.Thread t) k h = thread_ready script s n known t k h

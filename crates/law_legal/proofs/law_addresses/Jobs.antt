@@ -1,5 +1,5 @@
 -- Each job that is written with addresses means them.
-use Rattle.std.proofs.Common.{◌≡◌, ℕ, zero, suc, true, List, [], ◌∷◌, Some, sym, ap, subst, ◌∙◌, refl, arith}
+use Rattle.std.proofs.Common.{◌≡◌, ℕ, zero, suc, true, List, [], ◌∷◌, Option, Some, None, sym, ap, subst, ◌∙◌, refl, arith}
 use Rattle.std.specs.Prelude.{◌==◌, not, filter, slice_get, take}
 use Rattle.std.specs.List.{list_all}
 use Rattle.ttm_base.specs.declared.Op.{Op}
@@ -44,14 +44,16 @@ fit_at s [] i h = refl
 fit_at s (items ∷ lists) zero h = (both (items_fit s items) (list_all (items_fit s) lists) h).0
 fit_at s (items ∷ lists) (suc i) h = fit_at s lists i (both (items_fit s items) (list_all (items_fit s) lists) h).1
 
+no_mark : (m : Mark) → ◌≡◌ {A = Option Mark} None (Some m) → ⊥
+no_mark m e = cc
+
 pub jobs_mean : JobsMeanTheirAddresses
 jobs_mean s fits zero place m vs found kind =
     let x = items_of_marks s (marks_kept s fits) in
     let none : filter (λ (k : Mark). k.thread == 0) (numbered 1 x.lists) ≡ [] =
     drops (λ (k : Mark). k.thread == 0) (numbered 1 x.lists) (all_numbered (λ k. not (k.thread == 0)) 1 x.lists (λ u k kind a. is_later u 0 (omega (arith, a)))) in
     let no : marks_of s 0 ≡ [] = ap (λ ms. filter (λ (k : Mark). k.thread == 0) ms) x.comes.marks ∙ none in
-    let nothing = sym (ap (λ ms. slice_get ms place) no) ∙ found in
-    absurd (cc)
+    absurd (no_mark m (sym (ap (λ ms. slice_get ms place) no) ∙ found))
 jobs_mean s fits (suc i) place m vs found kind =
     let t = suc i in
     let x = items_of_marks s (marks_kept s fits) in

@@ -2,7 +2,7 @@
 use Rattle.std.proofs.Common.{◌≡◌, ℕ, ◌+◌, ◌*◌, ◌<◌, ◌≤◌, zero, suc, Bool, true, false, cond, List, [], ◌∷◌, length, Option, Some, None, Ok, refl, sym, subst, ◌∙◌, ap, arith, inl}
 use Rattle.std.specs.Prelude.{◌&&◌, ◌||◌, not, nat_le, nat_lt, find, is_some, option_and_then, slice_get, unwrap_or, if◌then◌else◌}
 use Rattle.std.specs.List.{list_all, position_or_len}
-use Rattle.std.proofs.lemmas.Bool.{and_parts, eqb-true, leb-true, lt-ltb, ltb-true, or_left, or_right}
+use Rattle.std.proofs.lemmas.Bool.{and_parts, eqb-true, false≢true, leb-true, lt-ltb, ltb-true, or_left, or_right, true≢false}
 use Rattle.std.proofs.lemmas.List.Folds.{find_at}
 use Rattle.ttm_base.specs.declared.Actor.{Actor}
 use Rattle.ttm_base.specs.declared.Actor.TheVariants as actor
@@ -58,14 +58,31 @@ Tells script s who (kind.Result r) =
     (thread : ℕ) (a : Access) → is_by_thread thread who ≡ true → peek_or_poke script thread (course s thread).answered ≡ Some a → IsSettledFor s a
 Tells script s who _ = Unit {0}
 
-clash : true ≡ false → ⊥
-clash h = cc
+-- ---- what is told apart, and what is one alone
+
+system_not_tt : System ≡ Tt → ⊥
+system_not_tt e = cc
+
+vram_not_tt : Vram ≡ Tt → ⊥
+vram_not_tt e = cc
+
+tt_not_system : Tt ≡ System → ⊥
+tt_not_system e = cc
+
+vram_not_system : Vram ≡ System → ⊥
+vram_not_system e = cc
+
+one_access : (x y : Access) → Some x ≡ Some y → x ≡ y
+one_access x y e = cc
+
+no_access : (a : Access) → ◌≡◌ {A = Option Access} None (Some a) → ⊥
+no_access a e = cc
 
 -- ---- tables
 
 -- a table without all frames has a page without one
 some_open : (table : List Loc) → list_all is_frame table ≡ false → position_or_len (λ l. not (is_frame l)) table < length table
-some_open [] h = cc
+some_open [] h = absurd (true≢false h)
 some_open (l ∷ table) h = by (is_frame l) h (some_open table)
   where
     by : (q : Bool) → (q && list_all is_frame table) ≡ false → (list_all is_frame table ≡ false → position_or_len (λ l. not (is_frame l)) table < length table) →
@@ -85,7 +102,7 @@ fill_open x h =
       where
         flip : (q : Bool) → not q ≡ true → q ≡ false
         flip false k = refl
-        flip true k = cc
+        flip true k = absurd (false≢true k)
 
 -- in a table with all frames each page has one
 pub framed_at : (table : List Loc) (i : ℕ) → list_all is_frame table ≡ true → i < length table → is_frame (unwrap_or (slice_get table i) loc.Zero) ≡ true
@@ -100,14 +117,14 @@ is_dead s b h = by (live_in s.core.buffers b) h
   where
     by : (o : Option Buffer) → is_some o ≡ false → o ≡ None
     by None g = refl
-    by (Some x) g = cc
+    by (Some x) g = absurd (true≢false g)
 
 is_there : (s : State) (b : BufId) → is_live s b ≡ true → live_in s.core.buffers b ≡ Some (buffer s b)
 is_there s b h = by (live_in s.core.buffers b) h
   where
     by : (o : Option Buffer) → is_some o ≡ true → o ≡ Some (unwrap_or o (new_buffer 0))
     by (Some x) g = refl
-    by None g = cc
+    by None g = absurd (false≢true g)
 
 -- ---- memory types
 
@@ -115,18 +132,18 @@ mem_is : (l k : Mem) → same_mem l k ≡ true → l ≡ k
 mem_is System System h = refl
 mem_is Tt Tt h = refl
 mem_is Vram Vram h = refl
-mem_is System Tt h = cc
-mem_is System Vram h = cc
-mem_is Tt System h = cc
-mem_is Tt Vram h = cc
-mem_is Vram System h = cc
-mem_is Vram Tt h = cc
+mem_is System Tt h = absurd (false≢true h)
+mem_is System Vram h = absurd (false≢true h)
+mem_is Tt System h = absurd (false≢true h)
+mem_is Tt Vram h = absurd (false≢true h)
+mem_is Vram System h = absurd (false≢true h)
+mem_is Vram Tt h = absurd (false≢true h)
 
 system_no_tt : {l : Mem} → l ≡ System → l ≡ Tt → ⊥
-system_no_tt e h = let z : System ≡ Tt = sym e ∙ h in cc
+system_no_tt e h = system_not_tt (sym e ∙ h)
 
 vram_no_tt : {l : Mem} → l ≡ Vram → l ≡ Tt → ⊥
-vram_no_tt e h = let z : Vram ≡ Tt = sym e ∙ h in cc
+vram_no_tt e h = vram_not_tt (sym e ∙ h)
 
 -- ---- accesses
 
@@ -145,14 +162,14 @@ range_inside script b off len h =
 pub inside : (script : Script) (cmd : Command) (a : Access) → is_command script cmd ≡ true → access_of cmd ≡ Some a → a.off + a.len ≤ 4096 * (decl script a.b).pages
 inside script (command.Read b off len) a h e =
     let p = and_parts (is_range_of script b off len) (nat_le len 256) h in
-    let it : (record { b = b; off = off; len = len }) ≡ a = cc in
+    let it : (record { b = b; off = off; len = len }) ≡ a = one_access (record { b = b; off = off; len = len }) a e in
     subst (λ (a : Access). a.off + a.len ≤ 4096 * (decl script a.b).pages) it (range_inside script b off len p.0)
 inside script (command.Write b off bytes) a h e =
     let p = and_parts (is_range_of script b off (length bytes) && nat_le (length bytes) 256) (list_all is_byte bytes) h in
     let q = and_parts (is_range_of script b off (length bytes)) (nat_le (length bytes) 256) p.0 in
-    let it : (record { b = b; off = off; len = length bytes }) ≡ a = cc in
+    let it : (record { b = b; off = off; len = length bytes }) ≡ a = one_access (record { b = b; off = off; len = length bytes }) a e in
     subst (λ (a : Access). a.off + a.len ≤ 4096 * (decl script a.b).pages) it (range_inside script b off (length bytes) q.0)
-inside script cmd a h e = cc
+inside script cmd a h e = absurd (no_access a e)
 
 -- so the pages that it meets are settled
 settled_for : (script : Script) (s : State) (cmd : Command) (a : Access) → GoodState script s → is_command script cmd ≡ true → access_of cmd ≡ Some a → IsReadyFor s a → IsSettledFor s a
@@ -164,9 +181,9 @@ settled_for script s cmd a good h e ready i meets m =
 
 -- a command that makes something reads and writes no range
 made_accesses_none : (x : Command) (a : Access) → makes x ≡ true → access_of x ≡ Some a → ⊥
-made_accesses_none (command.Read b off len) a h e = cc
-made_accesses_none (command.Write b off bytes) a h e = cc
-made_accesses_none x a h e = cc
+made_accesses_none (command.Read b off len) a h e = false≢true h
+made_accesses_none (command.Write b off bytes) a h e = false≢true h
+made_accesses_none x a h e = no_access a e
 
 -- ---- by what a thread is at
 
@@ -187,10 +204,10 @@ module _ (script : Script) (s : State) (t : ℕ) (cmd : Command) (o : Owned scri
     where
       by : (p u m q : Bool) → p ≡ true → not (p && (not u || not m || q)) ≡ true → (m ≡ true) × (q ≡ false)
       by true true true false e h = (refl, refl)
-      by true true true true e h = cc
-      by true true false q e h = cc
-      by true false m q e h = cc
-      by false u m q e h = cc
+      by true true true true e h = absurd (false≢true h)
+      by true true false q e h = absurd (false≢true h)
+      by true false m q e h = absurd (false≢true h)
+      by false u m q e h = absurd (false≢true e)
 
   fill_tells : (b : BufId) (k : Kind) → Turn script s (course s t) cmd (task.Fill b) → Filled script s b k → Tells script s (actor.Thread t) k
   fill_tells b k (victim_fill v on at f n q) g = filled_tells v.b k q (vram_no_tt at.mem) g
@@ -213,22 +230,22 @@ module _ (script : Script) (s : State) (t : ℕ) (cmd : Command) (o : Owned scri
     where
       by : (p u : Bool) (m : Mem) (q : Bool) → u ≡ true → m ≡ System → not (p && (not u || not (same_mem m System) || q)) ≡ false → q ≡ true
       by true true System true e n h = refl
-      by true true System false e n h = cc
-      by true true Tt q e n h = cc
-      by true true Vram q e n h = cc
-      by true false m q e n h = cc
-      by false u m q e n h = cc
+      by true true System false e n h = absurd (true≢false h)
+      by true true Tt q e n h = absurd (tt_not_system n)
+      by true true Vram q e n h = absurd (vram_not_system n)
+      by true false m q e n h = absurd (false≢true e)
+      by false u m q e n h = absurd (true≢false h)
 
   ready_for : (x : Command) (a : Access) → cmd ≡ x → access_of x ≡ Some a → OnNamed s (course s t) cmd → first_unready script s cmd ≡ None → IsReadyFor s a
   ready_for (command.Read b off len) a e h on f =
       let r = ready_at (command.Read b off len) b e (ap (λ q. q || false) (same_self b)) refl on f in
-      let it : record { b = b; off = off; len = len } ≡ a = cc in
+      let it : record { b = b; off = off; len = len } ≡ a = one_access (record { b = b; off = off; len = len }) a h in
       subst (IsReadyFor s) it (record { there = r.0; filled = r.1 })
   ready_for (command.Write b off bytes) a e h on f =
       let r = ready_at (command.Write b off bytes) b e (ap (λ q. q || false) (same_self b)) refl on f in
-      let it : record { b = b; off = off; len = length bytes } ≡ a = cc in
+      let it : record { b = b; off = off; len = length bytes } ≡ a = one_access (record { b = b; off = off; len = length bytes }) a h in
       subst (IsReadyFor s) it (record { there = r.0; filled = r.1 })
-  ready_for cmd a e h on f = cc
+  ready_for cmd a e h on f = absurd (no_access a h)
 
   -- a command that is answered made something
   answered_made : Turn script s (course s t) cmd task.Answer → (course s t).made ≡ true
@@ -244,7 +261,7 @@ access_is script thread n a cmd e h = by (is_mapped_at script thread n) h
   where
     by : (q : Bool) → (if q then option_and_then access_of (slice_get (commands_of script thread) n) else None) ≡ Some a → access_of cmd ≡ Some a
     by true g = ap (option_and_then access_of) (sym e) ∙ g
-    by false g = cc
+    by false g = absurd (no_access a g)
 
 -- ---- each entry
 

@@ -1,8 +1,8 @@
 -- Each actor's next entry can be read, as far as it doesn't show bytes.
-use Rattle.std.proofs.Common.{◌≡◌, ℕ, ◌+◌, ◌<◌, ◌≤◌, ◌^◌, Bool, true, false, [], length, Option, Some, None, Ok, Err, IsTrue, refl, sym, subst, arith, inl, inr}
+use Rattle.std.proofs.Common.{◌≡◌, ℕ, ◌+◌, ◌<◌, ◌≤◌, ◌^◌, Bool, true, false, [], length, Option, Some, None, Ok, Err, IsTrue, refl, sym, subst, ap, ◌∙◌, arith, inl, inr}
 use Rattle.std.specs.Prelude.{slice_get, unwrap_or, not, nat_lt, ◌==◌, ◌&&◌, if◌then◌else◌}
 use Rattle.std.specs.List.{list_all}
-use Rattle.std.proofs.lemmas.Bool.{lt-ltb, ltb-true, and_parts, eqb-true}
+use Rattle.std.proofs.lemmas.Bool.{lt-ltb, ltb-true, and_parts, eqb-true, false≢true}
 use Rattle.std.proofs.lemmas.Bool.Decides.{nat_tests}
 use Rattle.ttm_base.specs.declared.Mem.{Mem}
 use Rattle.ttm_base.specs.declared.Mem.TheVariants.{System, Tt, Vram}
@@ -13,6 +13,7 @@ use Rattle.ttm_base.specs.declared.Loc.TheVariants as loc
 use Rattle.ttm_base.specs.declared.Actor.{Actor}
 use Rattle.ttm_base.specs.declared.Actor.TheVariants as actor
 use Rattle.ttm_base.specs.declared.Deny.TheVariants as deny
+use Rattle.ttm_base.specs.declared.Need.{Need}
 use Rattle.ttm_base.specs.declared.Need.TheVariants as need
 use Rattle.ttm_base.specs.Placement.{forced_places}
 use Rattle.journal_model.specs.declared.script.Script.{Script}
@@ -74,6 +75,24 @@ pub record Known (script : Script) (s : State) (n : ℕ) : Type 0 where
   pub typed : Typed s
   pub below : Below n s
   pub short : n + 1 < 2 ^ 64
+
+-- ---- steps told apart
+
+one_kind : (k l : Kind) → ◌≡◌ {A = Step} (Ok k) (Ok l) → k ≡ l
+one_kind k l h = cc
+
+one_shown : (x r : Shown) → ◌≡◌ {A = Step} (Ok (kind.Result x)) (Ok (kind.Result r)) → x ≡ r
+one_shown x r h = cc
+
+need_not_kind : (n : Need) (k : Kind) → ◌≡◌ {A = Step} (Err n) (Ok k) → ⊥
+need_not_kind n k h = cc
+
+abbrev is_result : Kind → Bool
+is_result (kind.Result r) = true
+is_result k = false
+
+other_kind : (k : Kind) (r : Shown) → is_result k ≡ false → ◌≡◌ {A = Step} (Ok k) (Ok (kind.Result r)) → ⊥
+other_kind k r other h = false≢true (sym other ∙ ap is_result (one_kind k (kind.Result r) h))
 
 -- ---- sizes
 
@@ -272,8 +291,8 @@ module _ (script : Script) (fits : IsTrue (is_script script)) (s : State) (n : �
 
     -- what is shown once no job is waited for
     waited_shown : (o : Option JobId) (x : Shown) (r : Shown) → is_shown x ≡ true → unless_waiting o (kind.Result x) ≡ Ok (kind.Result r) → is_shown r ≡ true
-    waited_shown None x r h g = let it : kind.Result x ≡ kind.Result r = cc in let same : x ≡ r = cc in subst (λ r. is_shown r ≡ true) same h
-    waited_shown (Some i) x r h g = cc
+    waited_shown None x r h g = subst (λ r. is_shown r ≡ true) (one_shown x r g) h
+    waited_shown (Some i) x r h g = absurd (need_not_kind (need.Fence i) (kind.Result r) g)
 
     result_shown : (x : Shown) (r : Shown) → is_shown x ≡ true → ◌≡◌ {A = Step} (Ok (kind.Result x)) (Ok (kind.Result r)) → is_shown r ≡ true
     result_shown x r h g = waited_shown None x r h g
@@ -285,11 +304,11 @@ module _ (script : Script) (fits : IsTrue (is_script script)) (s : State) (n : �
     act_shown r (command.SwapOut b) g = by_frame (has_frame (buffer s b)) g
       where
         by_idle : (o : Option JobId) (slot : ℕ) → unless_waiting o (kind.SwapOut b (first_frame_page (buffer s b)) slot) ≡ Ok (kind.Result r) → is_shown r ≡ true
-        by_idle None slot h = cc
-        by_idle (Some i) slot h = cc
+        by_idle None slot h = absurd (other_kind _ r refl h)
+        by_idle (Some i) slot h = absurd (need_not_kind (need.Fence i) (kind.Result r) h)
 
         by_slot : (o : Option ℕ) → ◌≡◌ {A = Step} (elim o [ None ↦ Ok (kind.Refused deny.NoSwap) | Some slot ↦ once_idle s.core b (kind.SwapOut b (first_frame_page (buffer s b)) slot) ]) (Ok (kind.Result r)) → is_shown r ≡ true
-        by_slot None h = cc
+        by_slot None h = absurd (other_kind _ r refl h)
         by_slot (Some slot) h = by_idle (waited_for s.core (jobs_before_write (buffer s b))) slot h
 
         by_frame : (q : Bool) → ◌≡◌ {A = Step} (elim q [
@@ -299,12 +318,12 @@ module _ (script : Script) (fits : IsTrue (is_script script)) (s : State) (n : �
         by_frame false h = result_shown shown.Plain r refl h
         by_frame true h = by_slot (free_slot script s.core) h
     act_shown r (command.New b) g = result_shown shown.Plain r refl g
-    act_shown r (command.Free b) g = cc
+    act_shown r (command.Free b) g = absurd (other_kind _ r refl g)
     act_shown r (command.Pin b) g = result_shown shown.Plain r refl g
     act_shown r (command.Unpin b) g = result_shown shown.Plain r refl g
     act_shown r (command.Move b mem) g = result_shown shown.Plain r refl g
     act_shown r (command.Touch group) g = result_shown shown.Plain r refl g
-    act_shown r (command.Submit engine ops) g = cc
+    act_shown r (command.Submit engine ops) g = absurd (other_kind _ r refl g)
 
     group_fits : (group : ℕ) → is_command script (command.Touch group) ≡ true → is_u32 group ≡ true
     group_fits group h = u32 group (let l : group ≤ 15 = grind (arith, nat_tests) in omega (arith, l))
@@ -362,8 +381,8 @@ module _ (script : Script) (fits : IsTrue (is_script script)) (s : State) (n : �
 
   -- an entry once no job is waited for
   waited_fits : (o : Option JobId) (k l : Kind) → is_kind script k ≡ true → unless_waiting o k ≡ Ok l → is_kind script l ≡ true
-  waited_fits None k l h g = let same : k ≡ l = cc in subst (λ k. is_kind script k ≡ true) same h
-  waited_fits (Some i) k l h g = cc
+  waited_fits None k l h g = subst (λ k. is_kind script k ≡ true) (one_kind k l g) h
+  waited_fits (Some i) k l h g = absurd (need_not_kind (need.Fence i) l g)
 
   engine_says : (e : ℕ) (k : Kind) → next script s (actor.Engine e) ≡ Ok k → (is_u32 e ≡ true) × (is_kind script k ≡ true)
   engine_says e k h = by_head (head_of s e) refl h
@@ -395,7 +414,7 @@ module _ (script : Script) (fits : IsTrue (is_script script)) (s : State) (n : �
           u32 e (omega (arith, l, few, same))
 
       by_head : (o : Option Job) → head_of s e ≡ o → ◌≡◌ {A = Step} (elim o [ None ↦ Err need.NoJob | Some j ↦ step_of_job s j ]) (Ok k) → (is_u32 e ≡ true) × (is_kind script k ≡ true)
-      by_head None q g = cc
+      by_head None q g = absurd (need_not_kind need.NoJob k g)
       by_head (Some j) q g =
           let f = found_at (λ j. (j.id.ctx == e) && not j.finished) s.core.jobs j q in
           (context f.0 j f.1 (eqb-true j.id.ctx e (and_parts (j.id.ctx == e) (not j.finished) f.2).0), by_left f.0 j f.1 (nat_lt j.ran (length j.packets)) g)
@@ -405,7 +424,7 @@ module _ (script : Script) (fits : IsTrue (is_script script)) (s : State) (n : �
     where
       by : (o : Option Ghost) → ((g : Ghost) → o ≡ Some g → g.num ≤ s.last_ghost) →
           ◌≡◌ {A = Step} (elim o [ None ↦ Err need.NoGhost | Some g ↦ unless_waiting (waited_for s.core g.jobs) (kind.Reap g.num) ]) (Ok k) → is_kind script k ≡ true
-      by None l e = cc
+      by None l e = absurd (need_not_kind need.NoGhost k e)
       by (Some g) l e =
           let m = l g refl in
           let b = known.below.ghosts in

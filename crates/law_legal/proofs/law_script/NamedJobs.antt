@@ -2,7 +2,7 @@
 use Rattle.std.proofs.Common.{◌≡◌, ℕ, zero, suc, ◌+◌, ◌-◌, ◌*◌, ◌/◌, ◌<◌, ◌≤◌, min, max, Bool, true, false, cond, eqb, List, [], ◌∷◌, ◌++◌, length, map, Option, Some, None, refl, sym, ap, subst, ◌∙◌, arith, inl, inr, ◌⊎◌}
 use Rattle.std.specs.Prelude.{◌&&◌, ◌||◌, not, filter, find, flat_map, option_map, option_to_list, slice_get, unwrap_or, sum_by, nat_le, nat_lt, ◌==◌}
 use Rattle.std.specs.List.{list_all, list_any}
-use Rattle.std.proofs.lemmas.Bool.{cases_Bool, and_parts, leb-true, ltb-true, eqb-true, eq-eqb, lt-ltb}
+use Rattle.std.proofs.lemmas.Bool.{cases_Bool, and_parts, leb-true, ltb-true, eqb-true, eq-eqb, lt-ltb, false≢true}
 use Rattle.std.proofs.lemmas.List.Folds.{list_all-append}
 use Rattle.std.proofs.lemmas.List.Concat.{flat_map-cons}
 use Rattle.std.proofs.lemmas.List.Sums.{sum_by-append, sum_by-cons}
@@ -25,6 +25,7 @@ use Rattle.journal_model.specs.marks.ByName.{Spot, spot_in, spot_at, vop_len, fi
 use Rattle.journal_model.specs.scripts.CommandRules.{is_between, is_declared, is_range_of, is_op, is_byte}
 use Rattle.journal_model.specs.scripts.MarkRules.{ThreadMappings, thread_mappings_after, is_addressed, is_vop, are_apart, has_apart_ranges, is_page_range, is_mark, same_op, same_ops}
 use Rattle.journal_model.specs.scripts.ScriptRules.{is_decl, is_name}
+use Rattle.law_legal.proofs.law_spaces.Found.{one_alone, none_alone}
 use Rattle.law_legal.proofs.law_script.NumberLaws.{between, is_in}
 use Rattle.law_legal.proofs.law_items.Tests.{both, joint, three, three_facts, four, four_facts, le_is, is_le}
 
@@ -120,9 +121,9 @@ cases_option None = inl refl
 cases_option (Some x) = inr (x, refl)
 
 found_right : (p test : Region → Bool) (rs : List Region) (r : Region) → list_all p rs ≡ true → find test rs ≡ Some r → (p r ≡ true) × (test r ≡ true)
-found_right p test [] r h e = absurd (cc)
+found_right p test [] r h e = absurd (none_alone r e)
 found_right p test (x ∷ rs) r h e = elim (cases_Bool (test x)) [
-  | inl t ↦ let e' = rw t at e in let same : x ≡ r = cc in subst (λ (y : Region). (p y ≡ true) × (test y ≡ true)) same ((both (p x) (list_all p rs) h).0, t)
+  | inl t ↦ let e' = rw t at e in let same : x ≡ r = one_alone x r e' in subst (λ (y : Region). (p y ≡ true) × (test y ≡ true)) same ((both (p x) (list_all p rs) h).0, t)
   | inr t ↦ found_right p test rs r (both (p x) (list_all p rs) h).1 (rw t at e)
 ]
 
@@ -142,9 +143,9 @@ spot_in_right s addr r h e =
     record { there = f.0; some = omega (arith, high); inside = omega (arith, g, low, high) }
 
 spot_chosen : (s : Script) (rs : List Region) (addr : ℕ) (o : Option Region) (p : Spot) → list_all (is_region s) rs ≡ true → find (λ r. has_page (addr / 4096) r.span) rs ≡ o → option_map (spot_in addr) o ≡ Some p → IsSpot s p
-spot_chosen s rs addr None p h e i = absurd (cc)
+spot_chosen s rs addr None p h e i = absurd (none_alone p i)
 spot_chosen s rs addr (Some r) p h e i =
-    let same : spot_in addr r ≡ p = cc in
+    let same : spot_in addr r ≡ p = one_alone (spot_in addr r) p i in
     let f = found_right (is_region s) (λ x. has_page (addr / 4096) x.span) rs r h e in
     subst (IsSpot s) same (spot_in_right s addr r f.0 f.1)
 
@@ -160,8 +161,8 @@ record IsCut (x : Op) (rest : Option (List Op)) (ops : List Op) : Type 0 where
   all : x ∷ others ≡ ops
 
 cut_of : (x : Op) (rest : Option (List Op)) (ops : List Op) → option_map (λ os. x ∷ os) rest ≡ Some ops → IsCut x rest ops
-cut_of x None ops e = absurd (cc)
-cut_of x (Some os) ops e = record { others = os; rest_is = refl; all = cc }
+cut_of x None ops e = absurd (none_alone ops e)
+cut_of x (Some os) ops e = record { others = os; rest_is = refl; all = one_alone (x ∷ os) ops e }
 
 -- how long the next part is
 abbrev next_len : ℕ → Spot → Spot → ℕ
@@ -177,9 +178,9 @@ record IsNext (rs : List Region) (v : VOp) (at len fuel : ℕ) (ops : List Op) :
 
 next_of : (rs : List Region) (v : VOp) (at len fuel : ℕ) (ops : List Op) → ops_from rs v at (suc len) (suc fuel) ≡ Some ops → IsNext rs v at len fuel ops
 next_of rs v at len fuel ops e = elim (cases_option (spot_at rs (first_address v + at))) [
-  | inl a ↦ let none : ops_from rs v at (suc len) (suc fuel) ≡ None = rw (a, ops_from) refl in absurd (cc)
+  | inl a ↦ let none : ops_from rs v at (suc len) (suc fuel) ≡ None = rw (a, ops_from) refl in absurd (none_alone ops (sym none ∙ e))
   | inr (d, a) ↦ elim (cases_option (spot_at rs (second_address v + at))) [
-    | inl b ↦ let none : ops_from rs v at (suc len) (suc fuel) ≡ None = rw (a, b, ops_from) refl in absurd (cc)
+    | inl b ↦ let none : ops_from rs v at (suc len) (suc fuel) ≡ None = rw (a, b, ops_from) refl in absurd (none_alone ops (sym none ∙ e))
     | inr (s, b) ↦
         let n : ℕ = next_len len d s in
         let some : ops_from rs v at (suc len) (suc fuel) ≡ option_map (λ os. op_by_name v d s n ∷ os) (ops_from rs v (at + n) (suc len - n) fuel) = rw (a, b, ops_from) refl in
@@ -194,8 +195,8 @@ part_len (vop.Xor addr from len) d s n = refl
 part_len (vop.Probe addr len) d s n = refl
 
 ops_len : (rs : List Region) (v : VOp) (at len fuel : ℕ) (ops : List Op) → ops_from rs v at len fuel ≡ Some ops → (sum_by op_len ops ≡ len) × (0 < len → 0 < length ops)
-ops_len rs v at zero fuel ops e = let none : [] ≡ ops = cc in subst (λ (os : List Op). (sum_by op_len os ≡ 0) × (0 < 0 → 0 < length os)) none (refl, λ l. absurd (omega (arith, l)))
-ops_len rs v at (suc len) zero ops e = absurd (cc)
+ops_len rs v at zero fuel ops e = let none : [] ≡ ops = one_alone [] ops e in subst (λ (os : List Op). (sum_by op_len os ≡ 0) × (0 < 0 → 0 < length os)) none (refl, λ l. absurd (omega (arith, l)))
+ops_len rs v at (suc len) zero ops e = absurd (none_alone ops e)
 ops_len rs v at (suc len) (suc fuel) ops e =
     let x = next_of rs v at len fuel ops e in
     let n = next_len len x.d x.s in
@@ -216,13 +217,13 @@ record IsJoined (a b : Option (List Op)) (ops : List Op) : Type 0 where
   all : xs ++ ys ≡ ops
 
 joined_of : (a b : Option (List Op)) (ops : List Op) → joined a b ≡ Some ops → IsJoined a b ops
-joined_of (Some xs) (Some ys) ops h = record { xs = xs; ys = ys; left = refl; right = refl; all = cc }
-joined_of (Some xs) None ops h = absurd cc
-joined_of None b ops h = absurd cc
+joined_of (Some xs) (Some ys) ops h = record { xs = xs; ys = ys; left = refl; right = refl; all = one_alone (xs ++ ys) ops h }
+joined_of (Some xs) None ops h = absurd (none_alone ops h)
+joined_of None b ops h = absurd (none_alone ops h)
 
 -- they are as long as those with addresses
 pub job_len : (rs : List Region) (vs : List VOp) (ops : List Op) → job_by_name rs vs ≡ Some ops → sum_by op_len ops ≡ sum_by vop_len vs
-job_len rs [] ops h = let none : [] ≡ ops = cc in ap (sum_by op_len) (sym none)
+job_len rs [] ops h = let none : [] ≡ ops = one_alone [] ops h in ap (sum_by op_len) (sym none)
 job_len rs (v ∷ vs) ops h =
     let j = joined_of (op_in_names rs v) (job_by_name rs vs) ops h in
     let a = (ops_len rs v 0 (vop_len v) (vop_len v) j.xs j.left).0 in
@@ -282,7 +283,7 @@ same_seen [] b c e = refl
 same_seen (x ∷ bs) b c e = ap (λ n. (n == x.0) || has_buffer bs b) e ∙ ap (λ t. (c.0 == x.0) || t) (same_seen bs b c e)
 
 in_both : (bs cs : List BufId) (b c : BufId) → has_buffer bs b ≡ true → has_buffer cs c ≡ true → b.0 ≡ c.0 → list_any (has_buffer bs) cs ≡ true
-in_both bs [] b c h k e = absurd (cc)
+in_both bs [] b c h k e = absurd (false≢true k)
 in_both bs (y ∷ ys) b c h k e = elim (cases_Bool (c.0 == y.0)) [
   | inl t ↦
       let here : has_buffer bs y ≡ true = sym (same_seen bs b y (e ∙ eqb-true c.0 y.0 t)) ∙ h in
@@ -296,9 +297,7 @@ apart_buffers : (bs cs : List BufId) (b c : BufId) → are_apart bs cs ≡ true 
 apart_buffers bs cs b c a h k = elim (cases_Bool (b.0 == c.0)) [
   | inl t ↦
       let both : list_any (has_buffer bs) cs ≡ true = in_both bs cs b c h k (eqb-true b.0 c.0 t) in
-      let no : not (list_any (has_buffer bs) cs) ≡ false = rw both refl in
-      let yes : not (list_any (has_buffer bs) cs) ≡ true = a in
-      absurd (cc)
+      absurd (false≢true (ap not (sym both) ∙ a))
   | inr f ↦ ap not f
 ]
 
@@ -311,11 +310,11 @@ has_byte_there addr at len r l e =
     lt-ltb (max addr (4096 * r.span.start)) (min (addr + len) (4096 * r.span.end)) both
 
 stands_between : (rs : List Region) (addr at len : ℕ) (s : Spot) → at < len → spot_at rs (addr + at) ≡ Some s → has_buffer (buffers_between rs addr len) s.b ≡ true
-stands_between [] addr at len s l e = absurd (cc)
+stands_between [] addr at len s l e = absurd (none_alone s e)
 stands_between (x ∷ rs) addr at len s l e = elim (cases_Bool (has_page ((addr + at) / 4096) x.span)) [
   | inl t ↦
       let found : spot_at (x ∷ rs) (addr + at) ≡ Some (spot_in (addr + at) x) = rw (t, spot_at) refl in
-      let same : spot_in (addr + at) x ≡ s = cc in
+      let same : spot_in (addr + at) x ≡ s = one_alone (spot_in (addr + at) x) s (sym found ∙ e) in
       let has : has_byte_of addr len x ≡ true = has_byte_there addr at len x l t in
       let all : buffers_between (x ∷ rs) addr len ≡ x.b ∷ buffers_between rs addr len = rw (has, buffers_between) refl in
       let b : x.b.0 ≡ s.b.0 = ap (λ (y : Spot). y.b.0) same in
@@ -360,8 +359,8 @@ part_fits s rs (vop.Probe addr len) at n d e k a p =
 
 ops_right : (s : Script) (version : ℕ) (rs : List Region) (v : VOp) (at len fuel : ℕ) (ops : List Op) → list_all (is_decl version) s.buffers ≡ true → list_all (is_region s) rs ≡ true
     → is_vop v ≡ true → has_apart_ranges rs v ≡ true → at + len ≤ vop_len v → ops_from rs v at len fuel ≡ Some ops → list_all (is_op s) ops ≡ true
-ops_right s version rs v at zero fuel ops decls regions k a h e = let none : [] ≡ ops = cc in ap (list_all (is_op s)) (sym none)
-ops_right s version rs v at (suc len) zero ops decls regions k a h e = absurd (cc)
+ops_right s version rs v at zero fuel ops decls regions k a h e = let none : [] ≡ ops = one_alone [] ops e in ap (list_all (is_op s)) (sym none)
+ops_right s version rs v at (suc len) zero ops decls regions k a h e = absurd (none_alone ops e)
 ops_right s version rs v at (suc len) (suc fuel) ops decls regions k a h e =
     let x = next_of rs v at len fuel ops e in
     let n = next_len len x.d x.s in
@@ -386,7 +385,7 @@ ops_right s version rs v at (suc len) (suc fuel) ops decls regions k a h e =
 -- the operations by name keep the rules of operations
 pub job_fits : (s : Script) (v : ℕ) (rs : List Region) (vs : List VOp) (ops : List Op) → list_all (is_decl v) s.buffers ≡ true → list_all (is_region s) rs ≡ true → job_by_name rs vs ≡ Some ops
     → list_all is_vop vs ≡ true → list_all (has_apart_ranges rs) vs ≡ true → list_all (is_op s) ops ≡ true
-job_fits s version rs [] ops decls regions h fit apart = let none : [] ≡ ops = cc in ap (list_all (is_op s)) (sym none)
+job_fits s version rs [] ops decls regions h fit apart = let none : [] ≡ ops = one_alone [] ops h in ap (list_all (is_op s)) (sym none)
 job_fits s version rs (v ∷ vs) ops decls regions h fit apart =
     let f = both (is_vop v) (list_all is_vop vs) fit in
     let a = both (has_apart_ranges rs v) (list_all (has_apart_ranges rs) vs) apart in
@@ -432,13 +431,13 @@ same_op_is (op.Xor b i e k n) (op.Xor c j f l m) h =
 same_op_is (op.Probe b i n) (op.Probe c j m) h =
     let f = three_facts (eqb b.0 c.0) (eqb i j) (eqb n m) h in
     ap (λ a. op.Probe a i n) (buffer_is b c f.0) ∙ ap (λ a. op.Probe c a n) (eqb-true i j f.1) ∙ ap (λ a. op.Probe c j a) (eqb-true n m f.2)
-same_op_is _ _ h = absurd cc
+same_op_is _ _ h = absurd (false≢true h)
 
 -- lists that are the same are one
 pub same_are : (xs ys : List Op) → same_ops xs ys ≡ true → xs ≡ ys
 same_are [] [] h = refl
-same_are [] (y ∷ ys) h = absurd cc
-same_are (x ∷ xs) [] h = absurd cc
+same_are [] (y ∷ ys) h = absurd (false≢true h)
+same_are (x ∷ xs) [] h = absurd (false≢true h)
 same_are (x ∷ xs) (y ∷ ys) h =
     let f = both (same_op x y) (same_ops xs ys) h in
     ap (λ a. a ∷ xs) (same_op_is x y f.0) ∙ ap (λ os. y ∷ os) (same_are xs ys f.1)

@@ -2,6 +2,7 @@
 use Rattle.std.proofs.Common.{◌≡◌, ℕ, ◌+◌, Bool, true, false, cond, List, [], ◌∷◌, ◌++◌, Option, Some, None, Result, Ok, Err, refl, sym, ap, subst, ◌∙◌, append_assoc}
 use Rattle.std.specs.Prelude.{◌||◌, not, flat_map}
 use Rattle.std.specs.List.{list_any}
+use Rattle.std.proofs.lemmas.Bool.{false≢true}
 use Rattle.std.proofs.lemmas.List.{append-nil}
 use Rattle.std.proofs.lemmas.List.Concat.{flat_map-cons}
 use Rattle.journal_model.specs.declared.script.Script.{Script}
@@ -62,7 +63,7 @@ step {lists = lists} phase.Threads key.Vsubmit s n m ws l c w p r h =
     item_step s n m ws l (vsubmit_tells s n m ws l c (few_seats phase.Threads s n m h).1 h.decls (regions_at_end s lists h.comes h.marks) w p r) h
 step phase.Turns key.Schedule s n m ws l c w p r h = turn_from_turns s n m ws l w p r h
 step phase.Turns key.End s n m ws l c w p r h = end_from_turns s n m ws l w p h
-step _ _ s n m ws l c w p r h = absurd cc
+step _ _ s n m ws l c w p r h = absurd (false≢true c)
 
 -- the lines so far grow by a text
 pub record Longer (p : Progress) (lists : List (List Item)) (q : Progress) (text : Text) : Type 0 where

@@ -12,19 +12,26 @@ pub cases_option : {A : Type 0} (o : Option A) → (o ≡ None) ⊎ ((x : A) × 
 cases_option None = inl refl
 cases_option (Some x) = inr (x, refl)
 
+-- what is told of an option that is some
+pub one_alone : {A : Type 0} (x y : A) → Some x ≡ Some y → x ≡ y
+one_alone x y e = cc
+
+pub none_alone : {A : Type 0} (x : A) → ◌≡◌ {A = Option A} None (Some x) → ⊥
+none_alone x e = cc
+
 -- what is found stands past all that the list stands past
 pub found_past : (test : Region → Bool) (low : ℕ) (rs : List Region) (r : Region) → IsPast low rs → find test rs ≡ Some r → low ≤ r.span.start
-found_past test low [] r p h = absurd (cc)
+found_past test low [] r p h = absurd (none_alone r h)
 found_past test low (x ∷ rs) r p h = elim (cases_Bool (test x)) [
-  | inl t ↦ let h' = rw t at h in let same : x ≡ r = cc in subst (λ (y : Region). low ≤ y.span.start) same p.0
+  | inl t ↦ let h' = rw t at h in let same : x ≡ r = one_alone x r h' in subst (λ (y : Region). low ≤ y.span.start) same p.0
   | inr f ↦ found_past test low rs r p.1 (rw f at h)
 ]
 
 -- it passes the test
 pub found_passes : (test : Region → Bool) (rs : List Region) (r : Region) → find test rs ≡ Some r → test r ≡ true
-found_passes test [] r h = absurd (cc)
+found_passes test [] r h = absurd (none_alone r h)
 found_passes test (x ∷ rs) r h = elim (cases_Bool (test x)) [
-  | inl t ↦ let h' = rw t at h in let same : x ≡ r = cc in subst (λ (y : Region). test y ≡ true) same t
+  | inl t ↦ let h' = rw t at h in let same : x ≡ r = one_alone x r h' in subst (λ (y : Region). test y ≡ true) same t
   | inr f ↦ found_passes test rs r (rw f at h)
 ]
 
@@ -34,9 +41,9 @@ has_parts page s e =
     (leb-true s.start page parts.0, ltb-true page s.end parts.1)
 
 room_in : (rs : List Region) (addr : ℕ) (o : Option Region) (s : Spot) → find (λ x. has_page (addr / 4096) x.span) rs ≡ o → option_map (spot_in addr) o ≡ Some s → 1 ≤ s.room
-room_in rs addr None s e i = absurd (cc)
+room_in rs addr None s e i = absurd (none_alone s i)
 room_in rs addr (Some r) s e i =
-    let spot : spot_in addr r ≡ s = cc in
+    let spot : spot_in addr r ≡ s = one_alone (spot_in addr r) s i in
     let same : 4096 * r.span.end - addr ≡ s.room = ap (λ (t : Spot). t.room) spot in
     let parts = has_parts (addr / 4096) r.span (found_passes (λ x. has_page (addr / 4096) x.span) rs r e) in
     let high = parts.1 in

@@ -3,7 +3,7 @@ use mathlib.Core.Path.{fun_ext}
 use Rattle.std.proofs.Common.{◌≡◌, ℕ, zero, suc, ◌+◌, ◌-◌, ◌*◌, ◌/◌, ◌%◌, ◌<◌, ◌≤◌, min, max, true, false, List, [], ◌∷◌, ◌++◌, Option, Some, None, refl, ap, ap₂, sym, ◌∙◌, subst, arith, inl, inr, append_assoc}
 use Rattle.std.specs.Prelude.{map, flat_map, fold, find, option_map, bit_xor, not, nat_le, nat_lt, ◌==◌, ◌&&◌, ◌||◌, if◌then◌else◌}
 use Rattle.std.specs.List.{list_all, list_any}
-use Rattle.std.proofs.lemmas.Bool.{cases_Bool, and_parts, ltb-true, le-leb, lt-ltb, eqb-true, eq-eqb}
+use Rattle.std.proofs.lemmas.Bool.{cases_Bool, and_parts, ltb-true, le-leb, lt-ltb, eqb-true, eq-eqb, false≢true}
 use Rattle.std.proofs.lemmas.Bool.Decides.{nat_tests}
 use Rattle.std.proofs.lemmas.Grind.{fold-append, flat_map-append}
 use Rattle.std.proofs.lemmas.List.{map-append}
@@ -24,17 +24,17 @@ use Rattle.journal_model.specs.marks.ByName.{Spot, spot_in, spot_at, vop_len, fi
 use Rattle.laws.specs.law_cutting.Parts.{part_of}
 use Rattle.laws.proofs.law_cutting.Whole.{IsApart, shortened, after_none, after_more, after_ops-append, joined_is_shown, Each}
 use Rattle.law_legal.specs.law_spaces.Rising.{IsRising}
-use Rattle.law_legal.proofs.law_spaces.Found.{cases_option, found_past, found_passes, has_parts, spot_has_room}
+use Rattle.law_legal.proofs.law_spaces.Found.{cases_option, none_alone, one_alone, found_past, found_passes, has_parts, spot_has_room}
 
 -- ---- where bytes stand
 
 -- the mapping that has a page is found by each of its pages
 same_mapping : (p q : ℕ) (rs : List Region) (r : Region) → IsRising rs → find (λ x. has_page p x.span) rs ≡ Some r → has_page q r.span ≡ true → find (λ x. has_page q x.span) rs ≡ Some r
-same_mapping p q [] r h e t = absurd (cc)
+same_mapping p q [] r h e t = absurd (none_alone r e)
 same_mapping p q (x ∷ rs) r h e t = elim (cases_Bool (has_page p x.span)) [
   | inl k ↦
       let e' = rw k at e in
-      let same : x ≡ r = cc in
+      let same : x ≡ r = one_alone x r e' in
       let here : has_page q x.span ≡ true = ap (λ (y : Region). has_page q y.span) same ∙ t in
       rw here (ap Some same)
   | inr f ↦
@@ -68,9 +68,9 @@ bytes_of_mapping rs addr r h e k l =
 
 bytes_in : (rs : List Region) (addr : ℕ) (o : Option Region) (s : Spot) → IsRising rs → find (λ x. has_page (addr / 4096) x.span) rs ≡ o → option_map (spot_in addr) o ≡ Some s →
     (k : ℕ) → k < s.room → IsThere (regions_space rs) (addr + k) s.b (s.off + k)
-bytes_in rs addr None s h e i = absurd (cc)
+bytes_in rs addr None s h e i = absurd (none_alone s i)
 bytes_in rs addr (Some r) s h e i =
-    let same : spot_in addr r ≡ s = cc in
+    let same : spot_in addr r ≡ s = one_alone (spot_in addr r) s i in
     let P : Spot → Type 0 = λ t. (k : ℕ) → k < t.room → IsThere (regions_space rs) (addr + k) t.b (t.off + k) in
     subst P same (bytes_of_mapping rs addr r h e)
 
@@ -154,8 +154,8 @@ record IsCut (x : Op) (rest : Option (List Op)) (ops : List Op) : Type 0 where
   all : x ∷ others ≡ ops
 
 cut_of : (x : Op) (rest : Option (List Op)) (ops : List Op) → option_map (λ os. x ∷ os) rest ≡ Some ops → IsCut x rest ops
-cut_of x None ops e = absurd (cc)
-cut_of x (Some os) ops e = record { others = os; rest_is = refl; all = cc }
+cut_of x None ops e = absurd (none_alone ops e)
+cut_of x (Some os) ops e = record { others = os; rest_is = refl; all = one_alone (x ∷ os) ops e }
 
 -- the next part of an operation
 record IsNext (rs : List Region) (v : VOp) (at len fuel : ℕ) (ops : List Op) : Type 0 where
@@ -167,9 +167,9 @@ record IsNext (rs : List Region) (v : VOp) (at len fuel : ℕ) (ops : List Op) :
 
 next_of : (rs : List Region) (v : VOp) (at len fuel : ℕ) (ops : List Op) → ops_from rs v at (suc len) (suc fuel) ≡ Some ops → IsNext rs v at len fuel ops
 next_of rs v at len fuel ops e = elim (cases_option (spot_at rs (first_address v + at))) [
-  | inl a ↦ let none : ops_from rs v at (suc len) (suc fuel) ≡ None = rw (a, ops_from) refl in absurd (cc)
+  | inl a ↦ let none : ops_from rs v at (suc len) (suc fuel) ≡ None = rw (a, ops_from) refl in absurd (none_alone ops (sym none ∙ e))
   | inr (d, a) ↦ elim (cases_option (spot_at rs (second_address v + at))) [
-    | inl b ↦ let none : ops_from rs v at (suc len) (suc fuel) ≡ None = rw (a, b, ops_from) refl in absurd (cc)
+    | inl b ↦ let none : ops_from rs v at (suc len) (suc fuel) ≡ None = rw (a, b, ops_from) refl in absurd (none_alone ops (sym none ∙ e))
     | inr (s, b) ↦
         let n : ℕ = min (suc len) (min d.room s.room) in
         let some : ops_from rs v at (suc len) (suc fuel) ≡ option_map (λ os. op_by_name v d s n ∷ os) (ops_from rs v (at + n) (suc len - n) fuel) = rw (a, b, ops_from) refl in
@@ -185,8 +185,8 @@ first_bytes rs a at s n h e l k w =
 
 ops_make : (rs : List Region) (v : VOp) (at len fuel : ℕ) (ops : List Op) (m : Memory) → IsRising rs → ops_from rs v at len fuel ≡ Some ops → Each IsApart ops →
     after_ops m ops ≡ fold (after_byte (regions_space rs) v) m (count_from 1 len at)
-ops_make rs v at zero fuel ops m h e a = let none : [] ≡ ops = cc in subst (λ os. after_ops m os ≡ m) none refl
-ops_make rs v at (suc len) zero ops m h e a = absurd (cc)
+ops_make rs v at zero fuel ops m h e a = let none : [] ≡ ops = one_alone [] ops e in subst (λ os. after_ops m os ≡ m) none refl
+ops_make rs v at (suc len) zero ops m h e a = absurd (none_alone ops e)
 ops_make rs v at (suc len) (suc fuel) ops m h e a =
     let space : Space = regions_space rs in
     let x = next_of rs v at len fuel ops e in
@@ -265,9 +265,9 @@ nothing_shown space m (vop.Probe addr len) at = refl
 ops_show : (rs : List Region) (v : VOp) (at len fuel : ℕ) (ops : List Op) (m : Memory) → IsRising rs → ops_from rs v at len fuel ≡ Some ops →
     flat_map (λ piece. piece) (pieces_shown m ops) ≡ part_shown (regions_space rs) m v at len
 ops_show rs v at zero fuel ops m h e =
-    let none : [] ≡ ops = cc in
+    let none : [] ≡ ops = one_alone [] ops e in
     subst (λ os. flat_map (λ piece. piece) (pieces_shown m os) ≡ part_shown (regions_space rs) m v at 0) none (nothing_shown (regions_space rs) m v at)
-ops_show rs v at (suc len) zero ops m h e = absurd (cc)
+ops_show rs v at (suc len) zero ops m h e = absurd (none_alone ops e)
 ops_show rs v at (suc len) (suc fuel) ops m h e =
     let space : Space = regions_space rs in
     let x = next_of rs v at len fuel ops e in
@@ -294,7 +294,7 @@ same_seen [] b c e = refl
 same_seen (x ∷ bs) b c e = ap₂ (λ p q. p || q) (ap (λ n. n == x.0) e) (same_seen bs b c e)
 
 in_both : (bs cs : List BufId) (b c : BufId) → has_buffer bs b ≡ true → has_buffer cs c ≡ true → b.0 ≡ c.0 → list_any (has_buffer bs) cs ≡ true
-in_both bs [] b c h k e = absurd (cc)
+in_both bs [] b c h k e = absurd (false≢true k)
 in_both bs (y ∷ ys) b c h k e = elim (cases_Bool (c.0 == y.0)) [
   | inl t ↦
       let here : has_buffer bs y ≡ true = sym (same_seen bs b y (e ∙ eqb-true c.0 y.0 t)) ∙ h in
@@ -308,9 +308,7 @@ apart_buffers : (bs cs : List BufId) (b c : BufId) → are_apart bs cs ≡ true 
 apart_buffers bs cs b c a h k = elim (cases_Bool (b.0 == c.0)) [
   | inl t ↦
       let both : list_any (has_buffer bs) cs ≡ true = in_both bs cs b c h k (eqb-true b.0 c.0 t) in
-      let no : not (list_any (has_buffer bs) cs) ≡ false = rw both refl in
-      let yes : not (list_any (has_buffer bs) cs) ≡ true = a in
-      absurd (cc)
+      absurd (false≢true (ap not (sym both) ∙ a))
   | inr f ↦ f
 ]
 
@@ -325,11 +323,11 @@ has_byte_there addr at len r l e =
 
 -- the buffer where an address stands is one of its range
 stands_between : (rs : List Region) (addr at len : ℕ) (s : Spot) → at < len → spot_at rs (addr + at) ≡ Some s → has_buffer (buffers_between rs addr len) s.b ≡ true
-stands_between [] addr at len s l e = absurd (cc)
+stands_between [] addr at len s l e = absurd (none_alone s e)
 stands_between (x ∷ rs) addr at len s l e = elim (cases_Bool (has_page ((addr + at) / 4096) x.span)) [
   | inl t ↦
       let found : spot_at (x ∷ rs) (addr + at) ≡ Some (spot_in (addr + at) x) = rw (t, spot_at) refl in
-      let same : spot_in (addr + at) x ≡ s = cc in
+      let same : spot_in (addr + at) x ≡ s = one_alone (spot_in (addr + at) x) s (sym found ∙ e) in
       let has : has_byte_of addr len x ≡ true = has_byte_there addr at len x l t in
       let all : buffers_between (x ∷ rs) addr len ≡ x.b ∷ buffers_between rs addr len = rw (has, buffers_between) refl in
       let b : x.b.0 ≡ s.b.0 = ap (λ (y : Spot). y.b.0) same in
@@ -359,8 +357,8 @@ op_apart rs (vop.Probe addr len) at n d s a l e f = tt
 
 -- no part of an operation has one buffer twice
 ops_apart : (rs : List Region) (v : VOp) (at len fuel : ℕ) (ops : List Op) → has_apart_ranges rs v ≡ true → at + len ≤ vop_len v → ops_from rs v at len fuel ≡ Some ops → Each IsApart ops
-ops_apart rs v at zero fuel ops a l e = let none : [] ≡ ops = cc in subst (Each IsApart) none tt
-ops_apart rs v at (suc len) zero ops a l e = absurd (cc)
+ops_apart rs v at zero fuel ops a l e = let none : [] ≡ ops = one_alone [] ops e in subst (Each IsApart) none tt
+ops_apart rs v at (suc len) zero ops a l e = absurd (none_alone ops e)
 ops_apart rs v at (suc len) (suc fuel) ops a l e =
     let x = next_of rs v at len fuel ops e in
     let n : ℕ = min (suc len) (min x.d.room x.s.room) in
@@ -380,9 +378,9 @@ record IsJoined (a b : Option (List Op)) (ops : List Op) : Type 0 where
   all : first ++ others ≡ ops
 
 joined_of : (a b : Option (List Op)) (ops : List Op) → joined a b ≡ Some ops → IsJoined a b ops
-joined_of None b ops e = absurd (cc)
-joined_of (Some xs) None ops e = absurd (cc)
-joined_of (Some xs) (Some ys) ops e = record { first = xs; others = ys; first_is = refl; others_are = refl; all = cc }
+joined_of None b ops e = absurd (none_alone ops e)
+joined_of (Some xs) None ops e = absurd (none_alone ops e)
+joined_of (Some xs) (Some ys) ops e = record { first = xs; others = ys; first_is = refl; others_are = refl; all = one_alone (xs ++ ys) ops e }
 
 pieces-append : (xs ys : List Op) (m : Memory) → pieces_shown m (xs ++ ys) ≡ pieces_shown m xs ++ pieces_shown (after_ops m xs) ys
 pieces-append [] ys m = refl
@@ -396,7 +394,7 @@ pub record IsMeant (space : Space) (m : Memory) (vs : List VOp) (ops : List Op) 
   pub shown : flat_map (λ piece. piece) (pieces_shown m ops) ≡ vops_shown space m vs
 
 pub job_is_meant : (rs : List Region) (vs : List VOp) (ops : List Op) (m : Memory) → IsRising rs → list_all (has_apart_ranges rs) vs ≡ true → job_by_name rs vs ≡ Some ops → IsMeant (regions_space rs) m vs ops
-job_is_meant rs [] ops m h a e = let none : [] ≡ ops = cc in subst (IsMeant (regions_space rs) m []) none (record { memory = refl; shown = refl })
+job_is_meant rs [] ops m h a e = let none : [] ≡ ops = one_alone [] ops e in subst (IsMeant (regions_space rs) m []) none (record { memory = refl; shown = refl })
 job_is_meant rs (v ∷ vs) ops m h a e =
     let space : Space = regions_space rs in
     let parts = and_parts (has_apart_ranges rs v) (list_all (has_apart_ranges rs) vs) a in

@@ -1,5 +1,6 @@
 -- The result of a write: its buffer is live and ready, so each page that it writes is in VRAM or in a frame.
-use Rattle.std.proofs.Common.{◌≡◌, ℕ, ◌<◌, true, false, List, Some, Ok, IsTrue, refl, sym, ◌∙◌, ap, subst, length}
+use Rattle.std.proofs.Common.{◌≡◌, ℕ, ◌<◌, Bool, true, false, List, Some, Ok, IsTrue, refl, sym, ◌∙◌, ap, subst, length}
+use Rattle.std.proofs.lemmas.Bool.{true≢false, false≢true}
 use Rattle.ttm_base.specs.declared.Actor.{Actor}
 use Rattle.ttm_base.specs.declared.Actor.TheVariants as actor
 use Rattle.ttm_base.specs.declared.BufId.{BufId}
@@ -29,6 +30,29 @@ use Rattle.laws.specs.lemma_bytes_told.Told.{is_still, is_write, Told, still, ma
 use Rattle.room_representation.specs.lemma_room_bytes.Mapped.{IsFull}
 use Rattle.room_representation.proofs.lemma_room_bytes.Places.{IsReached, page_reached}
 
+-- ---- what is told apart, and what is one alone
+
+vram_not_system : Vram ≡ System → ⊥
+vram_not_system e = cc
+
+abbrev is_result : Kind → Bool
+is_result (kind.Result r) = true
+is_result k = false
+
+not_result : (k : Kind) (r : Shown) → is_result k ≡ false → k ≡ kind.Result r → ⊥
+not_result k r other e = false≢true (sym other ∙ ap is_result e)
+
+read_not_write : (c b : BufId) (from len off : ℕ) (values : List ℕ) → Some (command.Read c from len) ≡ Some (command.Write b off values) → ⊥
+read_not_write c b from len off values e = cc
+
+one_command : (x y : Command) → Some x ≡ Some y → x ≡ y
+one_command x y e = cc
+
+one_written : (c b : BufId) (from off : ℕ) (bytes values : List ℕ) → command.Write c from bytes ≡ command.Write b off values → c ≡ b
+one_written c b from off bytes values e = cc
+
+-- ---- the command that the result answers
+
 -- a live buffer that is ready for a command
 pub record IsReadyFor (script : Script) (s : State) (cmd : Command) (b : BufId) : Type 0 where
   pub live : live_in s.core.buffers b ≡ Some (buffer s b)
@@ -36,35 +60,32 @@ pub record IsReadyFor (script : Script) (s : State) (cmd : Command) (b : BufId) 
 
 module _ (script : Script) (s : State) (t : ℕ) (b : BufId) (off : ℕ) (values : List ℕ) (at_work : command_at_work script s t ≡ Some (command.Write b off values)) where
   of_write : (k : Kind) → Told script s t k → (r : Shown) → k ≡ kind.Result r → IsReadyFor script s (command.Write b off values) b
-  of_write k (still q) r e = let z : is_still (kind.Result r) ≡ true = subst (λ l. is_still l ≡ true) e q in cc
-  of_write k (makes {b = c} dead) r e = cc
-  of_write k (frees {b = c} there quiet) r e = cc
-  of_write k (leaves {b = c} there) r e = cc
-  of_write k (takes {b = c} {mem} {spans} place there m d free) r e = cc
-  of_write k (untakes {b = c} {mem} there) r e = cc
-  of_write k (populates {b = c} {f} there free l some out) r e = cc
-  of_write k (swaps_in {b = c} {k = slot} {f} there free l some out) r e = cc
-  of_write k (depopulates {b = c} there m) r e = cc
-  of_write k (binds {b = c} there m t' f) r e = cc
-  of_write k (unbinds {b = c} there quiet m) r e = cc
-  of_write k (moves_up {b = c} there m t') r e = cc
-  of_write k (moves_across {b = c} there m t') r e = cc
-  of_write k (moves_down {b = c} there m t' f) r e = cc
-  of_write k (evicts {b = c} there m t' f) r e = cc
-  of_write k (catches {b = c} {w}) r e = cc
-  of_write k (swaps_out {b = c} {k = slot} there m quiet f free) r e = cc
-  of_write k (arms {engine} ops at live ready) r e = cc
-  of_write k (reads c from len at none) r e = let z : Some (command.Read c from len) ≡ Some (command.Write b off values) = sym at ∙ at_work in cc
+  of_write k (still q) r e = absurd (false≢true (subst (λ l. is_still l ≡ true) e q))
+  of_write k (makes {b = c} dead) r e = absurd (not_result _ r refl e)
+  of_write k (frees {b = c} there quiet) r e = absurd (not_result _ r refl e)
+  of_write k (leaves {b = c} there) r e = absurd (not_result _ r refl e)
+  of_write k (takes {b = c} {mem} {spans} place there m d free) r e = absurd (not_result _ r refl e)
+  of_write k (untakes {b = c} {mem} there) r e = absurd (not_result _ r refl e)
+  of_write k (populates {b = c} {f} there free l some out) r e = absurd (not_result _ r refl e)
+  of_write k (swaps_in {b = c} {k = slot} {f} there free l some out) r e = absurd (not_result _ r refl e)
+  of_write k (depopulates {b = c} there m) r e = absurd (not_result _ r refl e)
+  of_write k (binds {b = c} there m t' f) r e = absurd (not_result _ r refl e)
+  of_write k (unbinds {b = c} there quiet m) r e = absurd (not_result _ r refl e)
+  of_write k (moves_up {b = c} there m t') r e = absurd (not_result _ r refl e)
+  of_write k (moves_across {b = c} there m t') r e = absurd (not_result _ r refl e)
+  of_write k (moves_down {b = c} there m t' f) r e = absurd (not_result _ r refl e)
+  of_write k (evicts {b = c} there m t' f) r e = absurd (not_result _ r refl e)
+  of_write k (catches {b = c} {w}) r e = absurd (not_result _ r refl e)
+  of_write k (swaps_out {b = c} {k = slot} there m quiet f free) r e = absurd (not_result _ r refl e)
+  of_write k (arms {engine} ops at live ready) r e = absurd (not_result _ r refl e)
+  of_write k (reads c from len at none) r e = absurd (read_not_write c b from len off values (sym at ∙ at_work))
   of_write k (writes c from bytes at there ready quiet) r e =
-      let z : Some (command.Write c from bytes) ≡ Some (command.Write b off values) = sym at ∙ at_work in
-      let same : command.Write c from bytes ≡ command.Write b off values = cc in
-      let one : c ≡ b = cc in
+      let same : command.Write c from bytes ≡ command.Write b off values = one_command (command.Write c from bytes) (command.Write b off values) (sym at ∙ at_work) in
+      let one : c ≡ b = one_written c b from off bytes values same in
       subst (λ d. IsReadyFor script s (command.Write b off values) d) one (subst (λ (cmd : Command). IsReadyFor script s cmd c) same (record { live = there; ready = ready }))
   of_write k (results cmd at w q shows) r e =
-      let z : Some cmd ≡ Some (command.Write b off values) = sym at ∙ at_work in
-      let same : cmd ≡ command.Write b off values = cc in
-      let f : is_write (command.Write b off values) ≡ false = subst (λ (c : Command). is_write c ≡ false) same w in
-      cc
+      let same : cmd ≡ command.Write b off values = one_command cmd (command.Write b off values) (sym at ∙ at_work) in
+      absurd (true≢false (sym (ap is_write same) ∙ w))
 
 -- a legal result is a result in its thread's step
 result_step : (script : Script) (w : World) (who : Actor) (r : Shown) → IsLegalNext script w (record { who = who; kind = kind.Result r }) → (x : Shown) × (next script w.state who ≡ Ok (kind.Result x))
@@ -75,8 +96,8 @@ result_step script w who r legal =
   where
     by : (l : Kind) → next script w.state who ≡ Ok l → kind.Result r ≡ showing script w.stores w.state who l → (x : Shown) × (next script w.state who ≡ Ok (kind.Result x))
     by (kind.Result x) h g = (x, h)
-    by (kind.Packet n k piece) h g = cc
-    by l h g = cc
+    by (kind.Packet n k piece) h g = absurd (not_result _ r refl (sym g))
+    by l h g = absurd (not_result _ r refl (sym g))
 
 module _ (script : Script) (journal : List Entry) (fits : IsTrue (is_script script)) (legal : IsLegal script journal) (thread : ℕ) (r : Shown) (b : BufId) (off : ℕ) (values : List ℕ)
     (legal_next : IsLegalNext script (world_of script journal) (record { who = actor.Thread thread; kind = kind.Result r }))
@@ -92,11 +113,8 @@ module _ (script : Script) (journal : List Entry) (fits : IsTrue (is_script scri
   write_reached i l =
       let shape = (clear_law script fits journal legal).shapes b (buffer (state_of script journal) b) write_ready.live in
       page_reached (buffer (state_of script journal) b) i l (full (buffer (state_of script journal) b).mem refl)
-      (λ e. shape.long (λ q. out (sym e ∙ q)))
+      (λ e. shape.long (λ q. vram_not_system (sym e ∙ q)))
     where
-      out : Vram ≡ System → ⊥
-      out e = cc
-
       full : (m : Mem) → (buffer (state_of script journal) b).mem ≡ m → ((buffer (state_of script journal) b).mem ≡ Vram → ⊥) → IsFull (buffer (state_of script journal) b).table
       full Vram e ne = absurd (ne e)
       full Tt e ne = ((clear_law script fits journal legal).shapes b (buffer (state_of script journal) b) write_ready.live).full e

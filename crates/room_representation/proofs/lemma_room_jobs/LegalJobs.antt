@@ -1,7 +1,7 @@
 -- What a legal journal tells of the jobs after it: they are in line, a new one has the next number, and a packet is the head's next.
-use Rattle.std.proofs.Common.{◌≡◌, ℕ, ◌+◌, List, Ok, IsTrue, ◌∙◌, ap, ap₂, subst}
+use Rattle.std.proofs.Common.{◌≡◌, ℕ, ◌+◌, Bool, true, false, List, Ok, IsTrue, refl, ◌∙◌, ap, ap₂, subst}
 use Rattle.std.specs.Prelude.{◌==◌}
-use Rattle.std.proofs.lemmas.Bool.{eqb-true, and_parts}
+use Rattle.std.proofs.lemmas.Bool.{eqb-true, and_parts, true≢false}
 use Rattle.ttm_base.specs.declared.Actor.{Actor}
 use Rattle.ttm_base.specs.declared.Actor.TheVariants as actor
 use Rattle.ttm_base.specs.declared.BufId.{BufId}
@@ -43,6 +43,17 @@ pub record IsShown (script : Script) (w : World) (e n k : ℕ) (piece : List ℕ
   pub step : next script w.state (actor.Engine e) ≡ Ok (kind.Packet n k plain)
   pub shown : piece ≡ probe_piece (aperture w.state.core) w.stores (job_packet w.state.core (record { ctx = e; num = n }) k)
 
+-- a packet's entry is told by its numbers and its bytes, and is no other entry
+packet_parts : (n k m i : ℕ) (piece plain : List ℕ) → kind.Packet n k piece ≡ kind.Packet m i plain → (m ≡ n) × (i ≡ k) × (piece ≡ plain)
+packet_parts n k m i piece plain e = (cc, cc, cc)
+
+abbrev is_packet : Kind → Bool
+is_packet (kind.Packet n k piece) = true
+is_packet k = false
+
+not_packet : (n k : ℕ) (piece : List ℕ) (l : Kind) → is_packet l ≡ false → kind.Packet n k piece ≡ l → ⊥
+not_packet n k piece l other e = true≢false (ap is_packet e ∙ other)
+
 -- where it is legal
 pub packet_shown : (script : Script) (w : World) (x : Entry) (e n k : ℕ) (piece : List ℕ) → x ≡ record { who = actor.Engine e; kind = kind.Packet n k piece } → IsLegalNext script w x → IsShown script w e n k piece
 packet_shown script w x e n k piece is legal =
@@ -52,13 +63,13 @@ packet_shown script w x e n k piece is legal =
   where
     by : (l : Kind) → next script w.state (actor.Engine e) ≡ Ok l → kind.Packet n k piece ≡ showing script w.stores w.state (actor.Engine e) l → IsShown script w e n k piece
     by (kind.Packet m i y) h g =
-        let num : m ≡ n = cc in
-        let at : i ≡ k = cc in
-        let bytes : piece ≡ probe_piece (aperture w.state.core) w.stores (job_packet w.state.core (record { ctx = e; num = m }) i) = cc in
+        let parts = packet_parts n k m i piece (probe_piece (aperture w.state.core) w.stores (job_packet w.state.core (record { ctx = e; num = m }) i)) g in
+        let num : m ≡ n = parts.0 in
+        let at : i ≡ k = parts.1 in
         record {
           plain = y;
           step = h ∙ ap₂ (λ a b. Ok (kind.Packet a b y)) num at;
-          shown = bytes ∙ ap₂ (λ a b. probe_piece (aperture w.state.core) w.stores (job_packet w.state.core (record { ctx = e; num = a }) b)) num at;
+          shown = parts.2 ∙ ap₂ (λ a b. probe_piece (aperture w.state.core) w.stores (job_packet w.state.core (record { ctx = e; num = a }) b)) num at;
         }
-    by (kind.Result r) h g = cc
-    by l h g = cc
+    by (kind.Result r) h g = absurd (not_packet n k piece _ refl g)
+    by l h g = absurd (not_packet n k piece _ refl g)
