@@ -1,4 +1,4 @@
-ghost use Rattle.std.specs.Prelude.{◌≡◌, ℕ, ◌+◌, ◌<◌, ◌≤◌, [], IfOk, IsSome, IsTrue, OnOk, OnErr, length, option_and_then, option_copied, option_map, remove, slice_get};
+ghost use Rattle.std.specs.Prelude.{◌≡◌, ℕ, ◌+◌, ◌<◌, ◌≤◌, [], IfOk, IsSome, IsTrue, OnOk, OnErr, length, option_and_then, option_copied, option_map, slice_get};
 ghost use Rattle.journal_model.specs.rules.State.{buffer, course_of, course};
 ghost use Rattle.journal_model.specs.rules.Choice.{choice as choice_of};
 ghost use Rattle.journal_model.specs.statements.Complete.{is_complete};
@@ -69,14 +69,6 @@ impl Model for Rooms {
     ghost view = { λ r. record { script = r.script; journal = r.journal } };
 
     ghost invariant = { λ r. AreHeld r.script r.journal r.parts };
-}
-
-/// Removes the last entry, which stands at `at`.
-fn take_back(journal: &mut ItemList<Entry>, at: usize)
-    requires { at < length journal.old }
-    ensures { journal.new ≡ remove journal.old at }
-{
-    journal.remove(at);
 }
 
 impl Rooms {
@@ -343,7 +335,7 @@ impl Rooms {
         let entry = &entries[at];
         let made = make_parts(&mut self.parts, self.alloc, &self.script, before, entry);
         if made.is_err() {
-            take_back(&mut self.journal, at);
+            self.journal.truncate(at);
         }
         made
     }
