@@ -15,5 +15,5 @@ before_is xs e n ys m a = ap (λ k. take k ys) m ∙ ap (λ l. take (length xs) 
 pub make_parts-made-requires-clause-held : goal.make_parts-made-requires-clause-held
 make_parts-made-requires-clause-held c =
     subst (λ j. AreHeld c.self.inside.script j c.self.inside.parts)
-      (sym (before_is c.self.inside.journal c.args.entry c.len-at.result c.items-entries.result.now c.len-at.ensures (c.items-entries.ensures ∙ c.in_ok-push.ensures.ok)))
-      c.self.invariant
+    (sym (before_is c.self.inside.journal c.args.entry c.len-at.result c.items-entries.result.now c.len-at.ensures (c.items-entries.ensures ∙ c.in_ok-push.ensures.ok)))
+    c.self.invariant
