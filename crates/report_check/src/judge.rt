@@ -1,9 +1,10 @@
 //! A journal is replayed over plain lists, entry by entry.
 
-ghost use Rattle.std.specs.Prelude.{IfOk, IfSome, IsTrue, option_copied};
+ghost use Rattle.std.specs.Prelude.{IfOk, IfSome, IsTrue, option_copied, take};
 ghost use Rattle.journal_model.specs.scripts.ScriptRules.{is_script};
 ghost use Rattle.rules_holds.specs.Free.{AreFree};
 ghost use Rattle.rules_search.specs.Room.{HasRoom};
+ghost use Rattle.plain_device.specs.Held.{IsHeld};
 ghost use Rattle.rules_stores.specs.Kept.{bytes_of};
 ghost use Rattle.report_check.specs.Judged.{Differs, IsJudged, Judges};
 
@@ -67,6 +68,34 @@ fn broken_rule(
     }
 }
 
+/// Judges `journal`, where `state` and `stores` are those before its first entry, by making its entries until one isn't legal next.
+fn judged(
+    alloc: Global,
+    script: &Script,
+    journal: &[Entry],
+    state: &mut State,
+    stores: &mut PlainStores,
+) -> Result<Verdict, NoMemory>
+    requires { IsHeld script.now (take 0 journal.now) state.old stores.old.sizes (bytes_of stores.old) }
+    ensures { IfOk result (Judges script.now journal.now) }
+{
+    let mut kept = None;
+    for (at, entry) in journal.iter().enumerate() {
+        let free = free_before(alloc, script, state, kept, entry)?;
+        if let Some(rule) = broken_rule(alloc, script, state, free.as_ref(), stores, entry)? {
+            let entry = at as u64 + 1;
+            return Ok(Verdict::Bad { entry, rule });
+        }
+        kept = free_after(state, free, entry);
+        enact(alloc, script, state, stores, entry)?;
+    }
+    if is_over(script, state) {
+        Ok(Verdict::Valid)
+    } else {
+        Ok(Verdict::Incomplete)
+    }
+}
+
 /// Judges whether `journal` is a legal and complete one of `script`, by making its entries until one isn't legal next. An entry costs
 /// what the rules over plain lists cost.
 ///
@@ -79,19 +108,5 @@ pub fn check(alloc: Global, script: &Script, journal: &[Entry]) -> Result<Verdic
 {
     let mut state = first_state(alloc, script)?;
     let mut stores = PlainStores::new(alloc, script.sizes)?;
-    let mut kept = None;
-    for (at, entry) in journal.iter().enumerate() {
-        let free = free_before(alloc, script, &state, kept, entry)?;
-        if let Some(rule) = broken_rule(alloc, script, &state, free.as_ref(), &stores, entry)? {
-            let entry = at as u64 + 1;
-            return Ok(Verdict::Bad { entry, rule });
-        }
-        kept = free_after(&state, free, entry);
-        enact(alloc, script, &mut state, &mut stores, entry)?;
-    }
-    if is_over(script, &state) {
-        Ok(Verdict::Valid)
-    } else {
-        Ok(Verdict::Incomplete)
-    }
+    judged(alloc, script, journal, &mut state, &mut stores)
 }

@@ -16,9 +16,22 @@ use rules_state::live_in;
 use std::alloc::Global;
 use ttm_base::{BufId, Loc, NoMemory};
 
-/// Returns whether an entry of this kind can be the first that depends on what is free: until a page has got its first frame, none is swapped.
-fn asks_first(kind: &Kind) -> bool {
-    matches!(kind, Kind::Populate { .. } | Kind::NoPages { .. })
+/// Returns what the page tables of `state` leave free, where `entry` can be the first that depends on it, else `None`: until a page has got its
+/// first frame, none is swapped.
+fn first_free(
+    alloc: Global,
+    script: &Script,
+    state: &State,
+    entry: &Entry,
+) -> Result<Option<FreeSets>, NoMemory>
+    ensures { IfOk result (λ free. IfSome free (AreFree script.now state.now.core)) }
+{
+    match &entry.kind {
+        Kind::Populate { .. } | Kind::NoPages { .. } => {
+            Ok(Some(FreeSets::new(alloc, script, &state.core)?))
+        }
+        _ => Ok(None),
+    }
 }
 
 /// Returns what is free in `state`, before `entry`: what was kept, or, at the first entry that depends on it, what is found in the page tables.
@@ -32,10 +45,9 @@ pub(super) fn free_before(
     requires { IfSome kept (AreFree script.now state.now.core) }
     ensures { IfOk result (λ free. IfSome free (AreFree script.now state.now.core)) }
 {
-    if kept.is_none() && asks_first(&entry.kind) {
-        Ok(Some(FreeSets::new(alloc, script, &state.core)?))
-    } else {
-        Ok(kept)
+    match kept {
+        Some(free) => Ok(Some(free)),
+        None => first_free(alloc, script, state, entry),
     }
 }
 

@@ -96,41 +96,42 @@ fn is_result(kind: &Kind, shown: &Shown) -> bool
 pub fn same_kind(kind: &Kind, other: &Kind) -> bool
     ensures { IsTrue result ↔ (kind.now ≡ other.now) }
 {
-    match kind {
-        Kind::Ticket { s } => matches!(other, Kind::Ticket { s: t } if s == t),
-        Kind::Reserve { b } => matches!(other, Kind::Reserve { b: c } if b == c),
-        Kind::Backoff { b, s } => matches!(other, Kind::Backoff { b: c, s: t } if b == c && s == t),
-        Kind::New { b } => matches!(other, Kind::New { b: c } if b == c),
-        Kind::Free { b, g } => matches!(other, Kind::Free { b: c, g: h } if b == c && g == h),
-        Kind::Take { b, mem, spans } => is_take(other, *b, *mem, spans.items()),
-        Kind::Untake { b, mem } =>
-            matches!(other, Kind::Untake { b: c, mem: m } if b == c && mem == m),
-        Kind::Populate { b, page, frame } => is_populate(other, *b, *page, *frame),
-        Kind::SwapIn {
-            b,
-            page,
-            slot,
-            frame,
-        } => is_swap_in(other, *b, *page, *slot, *frame),
-        Kind::Depopulate { b } => matches!(other, Kind::Depopulate { b: c } if b == c),
-        Kind::Bind { b } => matches!(other, Kind::Bind { b: c } if b == c),
-        Kind::Unbind { b } => matches!(other, Kind::Unbind { b: c } if b == c),
-        Kind::Move { b, mem, num, left } => is_move(other, *b, *mem, *num, *left),
-        Kind::Catch { b, why } =>
-            matches!(other, Kind::Catch { b: c, why: w } if b == c && same_why(*why, *w)),
-        Kind::Loose { b } => matches!(other, Kind::Loose { b: c } if b == c),
-        Kind::Skip { b } => matches!(other, Kind::Skip { b: c } if b == c),
-        Kind::Dry { b, k, why } => is_dry(other, *b, *k, why),
-        Kind::SwapOut { b, page, slot } => is_swap_out(other, *b, *page, *slot),
-        Kind::NoPages { b } => matches!(other, Kind::NoPages { b: c } if b == c),
-        Kind::Arm { engine, num } =>
-            matches!(other, Kind::Arm { engine: e, num: n } if engine == e && num == n),
-        Kind::Packet { num, k, piece } => is_packet(other, *num, *k, piece.items()),
-        Kind::Done { num } => matches!(other, Kind::Done { num: n } if num == n),
-        Kind::Reap { g } => matches!(other, Kind::Reap { g: h } if g == h),
-        Kind::Bulk { group } => matches!(other, Kind::Bulk { group: g } if group == g),
-        Kind::Result { shown } => is_result(other, shown),
-        Kind::Refused { deny } => matches!(other, Kind::Refused { deny: d } if deny == d),
+    match (kind, other) {
+        (Kind::Reserve { b }, Kind::Reserve { b: c })
+        | (Kind::New { b }, Kind::New { b: c })
+        | (Kind::Depopulate { b }, Kind::Depopulate { b: c })
+        | (Kind::Bind { b }, Kind::Bind { b: c })
+        | (Kind::Unbind { b }, Kind::Unbind { b: c })
+        | (Kind::Loose { b }, Kind::Loose { b: c })
+        | (Kind::Skip { b }, Kind::Skip { b: c })
+        | (Kind::NoPages { b }, Kind::NoPages { b: c }) => b == c,
+        (Kind::Ticket { s }, Kind::Ticket { s: t }) => s == t,
+        (Kind::Backoff { b, s }, Kind::Backoff { b: c, s: t }) => b == c && s == t,
+        (Kind::Free { b, g }, Kind::Free { b: c, g: h }) => b == c && g == h,
+        (Kind::Untake { b, mem }, Kind::Untake { b: c, mem: m }) => b == c && mem == m,
+        (Kind::Catch { b, why }, Kind::Catch { b: c, why: w }) => b == c && same_why(*why, *w),
+        (Kind::Arm { engine, num }, Kind::Arm { engine: e, num: n }) => engine == e && num == n,
+        (Kind::Done { num: n }, Kind::Done { num: m })
+        | (Kind::Reap { g: n }, Kind::Reap { g: m }) => n == m,
+        (Kind::Bulk { group }, Kind::Bulk { group: g }) => group == g,
+        (Kind::Refused { deny }, Kind::Refused { deny: d }) => deny == d,
+        (Kind::Take { b, mem, spans }, _) => is_take(other, *b, *mem, spans.items()),
+        (Kind::Populate { b, page, frame }, _) => is_populate(other, *b, *page, *frame),
+        (
+            Kind::SwapIn {
+                b,
+                page,
+                slot,
+                frame,
+            },
+            _,
+        ) => is_swap_in(other, *b, *page, *slot, *frame),
+        (Kind::Move { b, mem, num, left }, _) => is_move(other, *b, *mem, *num, *left),
+        (Kind::Dry { b, k, why }, _) => is_dry(other, *b, *k, why),
+        (Kind::SwapOut { b, page, slot }, _) => is_swap_out(other, *b, *page, *slot),
+        (Kind::Packet { num, k, piece }, _) => is_packet(other, *num, *k, piece.items()),
+        (Kind::Result { shown }, _) => is_result(other, shown),
+        _ => false,
     }
 }
 
