@@ -3,11 +3,12 @@ ghost use Rattle.ttm_base.specs.declared.Actor.TheVariants as actor;
 ghost use Rattle.journal_model.specs.declared.entry.Kind.TheVariants as kind;
 ghost use Rattle.journal_model.specs.rules.Legal.{IsLegalNext, world_of};
 ghost use Rattle.room_representation.specs.Held.{AreHeld};
+ghost use Rattle.room_representation.specs.Nexts.{Next};
 
 use crate::listings::relist;
 use crate::pins::change_pins;
 use crate::writes::write;
-use journal_model::{Entry, Script, Shown};
+use journal_model::{Script, Shown};
 use room_representation::Parts;
 use room_representation::room_steps::{command_of, go_on, held_by, release_all};
 use state_words::named;
@@ -19,16 +20,15 @@ pub fn answer(
     parts: &mut Parts,
     alloc: Global,
     script: &Script,
-    before: &[Entry],
-    entry: &Entry,
     thread: u32,
     shown: &Shown,
 ) -> Result<(), NoMemory>
-    requires held { AreHeld script.now before.now parts.old }
-    requires is { entry.now ≡ record { who = actor.Thread thread; kind = kind.Result shown.now } }
-    requires next { IsLegalNext script.now (world_of script.now before.now) entry.now }
-    ensures ok { OnOk result (AreHeld script.now (before.now ++ entry.now ∷ []) parts.new) }
-    ensures err { OnErr result (AreHeld script.now before.now parts.new) }
+    ghost w: { Next }
+    requires held { AreHeld script.now w.before parts.old }
+    requires is { w.entry ≡ record { who = actor.Thread thread; kind = kind.Result shown.now } }
+    requires next { IsLegalNext script.now (world_of script.now w.before) w.entry }
+    ensures ok { OnOk result (AreHeld script.now (w.before ++ w.entry ∷ []) parts.new) }
+    ensures err { OnErr result (AreHeld script.now w.before parts.new) }
 {
     parts.lru.members_stand_once();
     let command = command_of(script, &parts.courses, thread);

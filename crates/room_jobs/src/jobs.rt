@@ -3,11 +3,12 @@ ghost use Rattle.ttm_base.specs.declared.Actor.TheVariants as actor;
 ghost use Rattle.journal_model.specs.declared.entry.Kind.TheVariants as kind;
 ghost use Rattle.journal_model.specs.rules.Legal.{IsLegalNext, world_of};
 ghost use Rattle.room_representation.specs.Held.{AreHeld};
+ghost use Rattle.room_representation.specs.Nexts.{Next};
 
 use crate::packets::packets_of;
 use crate::uses::{add_uses, waits_at};
 use crate::work::command_at_work;
-use journal_model::{Entry, Script};
+use journal_model::Script;
 use room_representation::Parts;
 use room_representation::room_steps::has_made;
 use state_words::{named_in, ops_of};
@@ -20,17 +21,16 @@ pub fn arm(
     parts: &mut Parts,
     alloc: Global,
     script: &Script,
-    before: &[Entry],
-    entry: &Entry,
     thread: u32,
     engine: u32,
     num: u64,
 ) -> Result<(), NoMemory>
-    requires held { AreHeld script.now before.now parts.old }
-    requires is { entry.now ≡ record { who = actor.Thread thread; kind = kind.Arm engine num } }
-    requires next { IsLegalNext script.now (world_of script.now before.now) entry.now }
-    ensures ok { OnOk result (AreHeld script.now (before.now ++ entry.now ∷ []) parts.new) }
-    ensures err { OnErr result (AreHeld script.now before.now parts.new) }
+    ghost w: { Next }
+    requires held { AreHeld script.now w.before parts.old }
+    requires is { w.entry ≡ record { who = actor.Thread thread; kind = kind.Arm engine num } }
+    requires next { IsLegalNext script.now (world_of script.now w.before) w.entry }
+    ensures ok { OnOk result (AreHeld script.now (w.before ++ w.entry ∷ []) parts.new) }
+    ensures err { OnErr result (AreHeld script.now w.before parts.new) }
 {
     let command = command_at_work(script, &parts.courses, thread);
     let ops = ops_of(command);

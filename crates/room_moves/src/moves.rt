@@ -4,13 +4,14 @@ ghost use Rattle.journal_model.specs.declared.entry.Kind.TheVariants as kind;
 ghost use Rattle.journal_model.specs.rules.ApplyMoves.{last_ghost_left};
 ghost use Rattle.journal_model.specs.rules.Legal.{IsLegalNext, world_of};
 ghost use Rattle.room_representation.specs.Held.{AreHeld};
+ghost use Rattle.room_representation.specs.Nexts.{Next};
 
 use crate::ghosts::ghost_left;
 use crate::managers::{carry_spans, keep_move_fence};
 use crate::mappings::map_target;
 use crate::packets::move_packets;
 use crate::starts::{start_job, waits_of};
-use journal_model::{Entry, Left, Script};
+use journal_model::Left;
 use room_pages::room_binds::relist;
 use room_representation::Parts;
 use std::alloc::Global;
@@ -34,20 +35,18 @@ fn last_ghost(left: Left, before: u64) -> u64
 pub fn move_buffer(
     parts: &mut Parts,
     alloc: Global,
-    script: &Script,
-    before: &[Entry],
-    entry: &Entry,
     thread: u32,
     b: BufId,
     mem: Mem,
     num: u64,
     left: Left,
 ) -> Result<(), NoMemory>
-    requires held { AreHeld script.now before.now parts.old }
-    requires is { entry.now ≡ record { who = actor.Thread thread; kind = kind.Move b mem num left } }
-    requires next { IsLegalNext script.now (world_of script.now before.now) entry.now }
-    ensures ok { OnOk result (AreHeld script.now (before.now ++ entry.now ∷ []) parts.new) }
-    ensures err { OnErr result (AreHeld script.now before.now parts.new) }
+    ghost w: { Next }
+    requires held { AreHeld w.script w.before parts.old }
+    requires is { w.entry ≡ record { who = actor.Thread thread; kind = kind.Move b mem num left } }
+    requires next { IsLegalNext w.script (world_of w.script w.before) w.entry }
+    ensures ok { OnOk result (AreHeld w.script (w.before ++ w.entry ∷ []) parts.new) }
+    ensures err { OnErr result (AreHeld w.script w.before parts.new) }
 {
     parts.lru.members_stand_once();
     let job = JobId { ctx: MOVES, num };

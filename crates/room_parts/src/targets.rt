@@ -9,11 +9,11 @@ ghost use Rattle.resource_core.specs.Vram.{spans_of_kind};
 ghost use Rattle.room_representation.specs.lemma_room_spans.Calls.{taken, untaken};
 ghost use Rattle.room_parts.specs.Takes.{CanHold};
 ghost use Rattle.room_representation.specs.Held.{AreHeld};
+ghost use Rattle.room_representation.specs.Nexts.{Next};
 ghost use Rattle.room_parts.specs.MoveSets.{with_move_fence, CanJoin};
 
 use bo_table::BoTable;
 use fence_core::Timeline;
-use journal_model::{Entry, Script};
 use resource_core::{Manager, RangeRoom, VramRoom};
 use room_representation::Parts;
 use room_representation::room_steps::end_search;
@@ -41,19 +41,12 @@ fn give_tt(room: &mut RangeRoom, b: BufId, mem: Mem)
 }
 
 /// Gives the target of buffer `b` in `mem` back, since its search failed further on.
-pub fn untake(
-    parts: &mut Parts,
-    script: &Script,
-    before: &[Entry],
-    entry: &Entry,
-    thread: u32,
-    b: BufId,
-    mem: Mem,
-)
-    requires held { AreHeld script.now before.now parts.old }
-    requires is { entry.now ≡ record { who = actor.Thread thread; kind = kind.Untake b mem } }
-    requires next { IsLegalNext script.now (world_of script.now before.now) entry.now }
-    ensures { AreHeld script.now (before.now ++ entry.now ∷ []) parts.new }
+pub fn untake(parts: &mut Parts, thread: u32, b: BufId, mem: Mem)
+    ghost w: { Next }
+    requires held { AreHeld w.script w.before parts.old }
+    requires is { w.entry ≡ record { who = actor.Thread thread; kind = kind.Untake b mem } }
+    requires next { IsLegalNext w.script (world_of w.script w.before) w.entry }
+    ensures { AreHeld w.script (w.before ++ w.entry ∷ []) parts.new }
 {
     give_vram(&mut parts.vram, b, mem);
     give_tt(&mut parts.tt, b, mem);
@@ -100,19 +93,17 @@ fn add_move_fence(bos: &mut BoTable, b: BufId, mem: Mem, line: &Timeline, fence:
 /// Takes the pages `spans`, which were found for buffer `b`, as its target in the memory type `mem`.
 pub fn take(
     parts: &mut Parts,
-    script: &Script,
-    before: &[Entry],
-    entry: &Entry,
     thread: u32,
     b: BufId,
     mem: Mem,
     spans: &Spans,
 ) -> Result<(), NoMemory>
-    requires held { AreHeld script.now before.now parts.old }
-    requires is { entry.now ≡ record { who = actor.Thread thread; kind = kind.Take b mem spans.now } }
-    requires next { IsLegalNext script.now (world_of script.now before.now) entry.now }
-    ensures ok { OnOk result (AreHeld script.now (before.now ++ entry.now ∷ []) parts.new) }
-    ensures err { OnErr result (AreHeld script.now before.now parts.new) }
+    ghost w: { Next }
+    requires held { AreHeld w.script w.before parts.old }
+    requires is { w.entry ≡ record { who = actor.Thread thread; kind = kind.Take b mem spans.now } }
+    requires next { IsLegalNext w.script (world_of w.script w.before) w.entry }
+    ensures ok { OnOk result (AreHeld w.script (w.before ++ w.entry ∷ []) parts.new) }
+    ensures err { OnErr result (AreHeld w.script w.before parts.new) }
 {
     let target = spans.copy()?;
     hold_target(&mut parts.vram, &mut parts.tt, b, mem, spans)?;

@@ -5,10 +5,11 @@ ghost use Rattle.journal_model.specs.declared.entry.Kind.TheVariants as kind;
 ghost use Rattle.journal_model.specs.rules.Commands.{decl};
 ghost use Rattle.journal_model.specs.rules.Legal.{IsLegalNext, world_of};
 ghost use Rattle.room_representation.specs.Held.{AreHeld};
+ghost use Rattle.room_representation.specs.Nexts.{Next};
 ghost use Rattle.room_representation.specs.room_steps.Courses.{course_at, with_course_by};
 ghost use Rattle.room_parts.specs.Dries.{dried, searched_places};
 
-use journal_model::{Command, Courses, DryWhy, Entry, Script, Targets, Why};
+use journal_model::{Command, Courses, DryWhy, Script, Targets, Why};
 use place_list::forced_count;
 use room_representation::Parts;
 use room_representation::room_steps::{
@@ -23,18 +24,16 @@ use ttm_base::{BufId, Deny, NoMemory};
 pub fn catch(
     parts: &mut Parts,
     alloc: Global,
-    script: &Script,
-    before: &[Entry],
-    entry: &Entry,
     thread: u32,
     b: BufId,
     why: Why,
 ) -> Result<(), NoMemory>
-    requires held { AreHeld script.now before.now parts.old }
-    requires is { entry.now ≡ record { who = actor.Thread thread; kind = kind.Catch b why } }
-    requires next { IsLegalNext script.now (world_of script.now before.now) entry.now }
-    ensures ok { OnOk result (AreHeld script.now (before.now ++ entry.now ∷ []) parts.new) }
-    ensures err { OnErr result (AreHeld script.now before.now parts.new) }
+    ghost w: { Next }
+    requires held { AreHeld w.script w.before parts.old }
+    requires is { w.entry ≡ record { who = actor.Thread thread; kind = kind.Catch b why } }
+    requires next { IsLegalNext w.script (world_of w.script w.before) w.entry }
+    ensures ok { OnOk result (AreHeld w.script (w.before ++ w.entry ∷ []) parts.new) }
+    ensures err { OnErr result (AreHeld w.script w.before parts.new) }
 {
     let stamp = stamp_of(&parts.courses, thread);
     add_victim(&mut parts.courses, thread, b, why)?;
@@ -44,18 +43,12 @@ pub fn catch(
 }
 
 /// Releases the victim `b` of `thread`, which counts as just used.
-pub fn loose(
-    parts: &mut Parts,
-    script: &Script,
-    before: &[Entry],
-    entry: &Entry,
-    thread: u32,
-    b: BufId,
-)
-    requires held { AreHeld script.now before.now parts.old }
-    requires is { entry.now ≡ record { who = actor.Thread thread; kind = kind.Loose b } }
-    requires next { IsLegalNext script.now (world_of script.now before.now) entry.now }
-    ensures { AreHeld script.now (before.now ++ entry.now ∷ []) parts.new }
+pub fn loose(parts: &mut Parts, thread: u32, b: BufId)
+    ghost w: { Next }
+    requires held { AreHeld w.script w.before parts.old }
+    requires is { w.entry ≡ record { who = actor.Thread thread; kind = kind.Loose b } }
+    requires next { IsLegalNext w.script (world_of w.script w.before) w.entry }
+    ensures { AreHeld w.script (w.before ++ w.entry ∷ []) parts.new }
 {
     parts.lru.members_stand_once();
     forget_victim(&mut parts.courses, thread, b);
@@ -64,19 +57,13 @@ pub fn loose(
 }
 
 /// Releases the victim `b` of `thread`, for which there was no room; the thread passes over it from now on.
-pub fn skip(
-    parts: &mut Parts,
-    script: &Script,
-    before: &[Entry],
-    entry: &Entry,
-    thread: u32,
-    b: BufId,
-) -> Result<(), NoMemory>
-    requires held { AreHeld script.now before.now parts.old }
-    requires is { entry.now ≡ record { who = actor.Thread thread; kind = kind.Skip b } }
-    requires next { IsLegalNext script.now (world_of script.now before.now) entry.now }
-    ensures ok { OnOk result (AreHeld script.now (before.now ++ entry.now ∷ []) parts.new) }
-    ensures err { OnErr result (AreHeld script.now before.now parts.new) }
+pub fn skip(parts: &mut Parts, thread: u32, b: BufId) -> Result<(), NoMemory>
+    ghost w: { Next }
+    requires held { AreHeld w.script w.before parts.old }
+    requires is { w.entry ≡ record { who = actor.Thread thread; kind = kind.Skip b } }
+    requires next { IsLegalNext w.script (world_of w.script w.before) w.entry }
+    ensures ok { OnOk result (AreHeld w.script (w.before ++ w.entry ∷ []) parts.new) }
+    ensures err { OnErr result (AreHeld w.script w.before parts.new) }
 {
     skip_victim(&mut parts.courses, thread, b)?;
     parts.bos.release(b);
@@ -84,18 +71,12 @@ pub fn skip(
 }
 
 /// Notes that `thread` finds no frame for buffer `b`: its search has failed.
-pub fn no_pages(
-    parts: &mut Parts,
-    script: &Script,
-    before: &[Entry],
-    entry: &Entry,
-    thread: u32,
-    b: BufId,
-)
-    requires held { AreHeld script.now before.now parts.old }
-    requires is { entry.now ≡ record { who = actor.Thread thread; kind = kind.NoPages b } }
-    requires next { IsLegalNext script.now (world_of script.now before.now) entry.now }
-    ensures { AreHeld script.now (before.now ++ entry.now ∷ []) parts.new }
+pub fn no_pages(parts: &mut Parts, thread: u32, b: BufId)
+    ghost w: { Next }
+    requires held { AreHeld w.script w.before parts.old }
+    requires is { w.entry ≡ record { who = actor.Thread thread; kind = kind.NoPages b } }
+    requires next { IsLegalNext w.script (world_of w.script w.before) w.entry }
+    ensures { AreHeld w.script (w.before ++ w.entry ∷ []) parts.new }
 {
     fail_search(&mut parts.courses, thread, b, Deny::NoPages);
 }
@@ -131,20 +112,12 @@ fn note_dry(courses: &mut Courses, thread: u32, b: BufId, k: u32, places: usize)
 }
 
 /// Notes that place `k` of a search under pressure is dry: nothing in it is free, and nothing can be evicted.
-pub fn dry(
-    parts: &mut Parts,
-    script: &Script,
-    before: &[Entry],
-    entry: &Entry,
-    thread: u32,
-    b: BufId,
-    k: u32,
-    why: &DryWhy,
-)
-    requires held { AreHeld script.now before.now parts.old }
-    requires is { entry.now ≡ record { who = actor.Thread thread; kind = kind.Dry b k why.now } }
-    requires next { IsLegalNext script.now (world_of script.now before.now) entry.now }
-    ensures { AreHeld script.now (before.now ++ entry.now ∷ []) parts.new }
+pub fn dry(parts: &mut Parts, script: &Script, thread: u32, b: BufId, k: u32, why: &DryWhy)
+    ghost w: { Next }
+    requires held { AreHeld script.now w.before parts.old }
+    requires is { w.entry ≡ record { who = actor.Thread thread; kind = kind.Dry b k why.now } }
+    requires next { IsLegalNext script.now (world_of script.now w.before) w.entry }
+    ensures { AreHeld script.now (w.before ++ w.entry ∷ []) parts.new }
 {
     let command = command_of(script, &parts.courses, thread);
     let places = place_count(script, command, b, &parts.bos.get(b).targets);

@@ -12,3 +12,4 @@ pub mod Bos
 pub mod Managers
 pub mod Represents
 pub mod Held
+pub mod Nexts

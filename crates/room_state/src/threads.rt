@@ -2,6 +2,7 @@ ghost use Rattle.std.specs.Prelude.{◌≡◌, ◌∷◌, ◌++◌, [], OnOk, On
 ghost use Rattle.ttm_base.specs.declared.Actor.TheVariants as actor;
 ghost use Rattle.journal_model.specs.rules.Legal.{IsLegalNext, world_of};
 ghost use Rattle.room_representation.specs.Held.{AreHeld};
+ghost use Rattle.room_representation.specs.Nexts.{Next};
 ghost use Rattle.room_state.specs.Themes as words;
 ghost use Rattle.room_state.specs.declared.themes.Theme.TheVariants as theme;
 
@@ -21,28 +22,24 @@ use std::alloc::Global;
 use ttm_base::NoMemory;
 
 /// Applies an entry of `thread` on its ticket and its reservations to the parts.
-fn make_lock(
-    parts: &mut Parts,
-    script: &Script,
-    before: &[Entry],
-    entry: &Entry,
-    thread: u32,
-) -> Result<(), NoMemory>
-    requires held { AreHeld script.now before.now parts.old }
+fn make_lock(parts: &mut Parts, entry: &Entry, thread: u32) -> Result<(), NoMemory>
+    ghost w: { Next }
+    requires entry { w.entry ≡ entry.now }
+    requires held { AreHeld w.script w.before parts.old }
     requires who { entry.now.who ≡ actor.Thread thread }
     requires theme { words.theme_of entry.now.kind ≡ theme.Lock }
-    requires next { IsLegalNext script.now (world_of script.now before.now) entry.now }
-    ensures ok { OnOk result (AreHeld script.now (before.now ++ entry.now ∷ []) parts.new) }
-    ensures err { OnErr result (AreHeld script.now before.now parts.new) }
+    requires next { IsLegalNext w.script (world_of w.script w.before) w.entry }
+    ensures ok { OnOk result (AreHeld w.script (w.before ++ w.entry ∷ []) parts.new) }
+    ensures err { OnErr result (AreHeld w.script w.before parts.new) }
 {
     match &entry.kind {
         Kind::Ticket { s } => {
-            ticket(parts, script, before, entry, thread, *s);
+            ticket(parts, thread, *s);
             Ok(())
         }
-        Kind::Reserve { b } => reserve(parts, script, before, entry, thread, *b),
+        Kind::Reserve { b } => reserve(parts, thread, *b),
         Kind::Backoff { b, s } => {
-            back_off(parts, script, before, entry, thread, *b, *s);
+            back_off(parts, thread, *b, *s);
             Ok(())
         }
         _ => unreachable!(),
@@ -54,28 +51,28 @@ fn make_search(
     parts: &mut Parts,
     alloc: Global,
     script: &Script,
-    before: &[Entry],
     entry: &Entry,
     thread: u32,
 ) -> Result<(), NoMemory>
-    requires held { AreHeld script.now before.now parts.old }
+    ghost w: { Next }
+    requires script { w.script ≡ script.now }
+    requires entry { w.entry ≡ entry.now }
+    requires held { AreHeld w.script w.before parts.old }
     requires who { entry.now.who ≡ actor.Thread thread }
     requires theme { words.theme_of entry.now.kind ≡ theme.Search }
-    requires next { IsLegalNext script.now (world_of script.now before.now) entry.now }
-    ensures ok { OnOk result (AreHeld script.now (before.now ++ entry.now ∷ []) parts.new) }
-    ensures err { OnErr result (AreHeld script.now before.now parts.new) }
+    requires next { IsLegalNext w.script (world_of w.script w.before) w.entry }
+    ensures ok { OnOk result (AreHeld w.script (w.before ++ w.entry ∷ []) parts.new) }
+    ensures err { OnErr result (AreHeld w.script w.before parts.new) }
 {
     match &entry.kind {
-        Kind::Take { b, mem, spans } => {
-            take(parts, script, before, entry, thread, *b, *mem, spans)
-        }
+        Kind::Take { b, mem, spans } => { take(parts, thread, *b, *mem, spans) }
         Kind::Untake { b, mem } => {
-            untake(parts, script, before, entry, thread, *b, *mem);
+            untake(parts, thread, *b, *mem);
             Ok(())
         }
-        Kind::Catch { b, why } => { catch(parts, alloc, script, before, entry, thread, *b, *why) }
+        Kind::Catch { b, why } => { catch(parts, alloc, thread, *b, *why) }
         Kind::Dry { b, k, why } => {
-            dry(parts, script, before, entry, thread, *b, *k, why);
+            dry(parts, script, thread, *b, *k, why);
             Ok(())
         }
         _ => unreachable!(),
@@ -83,50 +80,45 @@ fn make_search(
 }
 
 /// Applies an entry of `thread` on a buffer that goes to its target to the parts.
-fn make_carry(
-    parts: &mut Parts,
-    alloc: Global,
-    script: &Script,
-    before: &[Entry],
-    entry: &Entry,
-    thread: u32,
-) -> Result<(), NoMemory>
-    requires held { AreHeld script.now before.now parts.old }
+fn make_carry(parts: &mut Parts, alloc: Global, entry: &Entry, thread: u32) -> Result<(), NoMemory>
+    ghost w: { Next }
+    requires entry { w.entry ≡ entry.now }
+    requires held { AreHeld w.script w.before parts.old }
     requires who { entry.now.who ≡ actor.Thread thread }
     requires theme { words.theme_of entry.now.kind ≡ theme.Carry }
-    requires next { IsLegalNext script.now (world_of script.now before.now) entry.now }
-    ensures ok { OnOk result (AreHeld script.now (before.now ++ entry.now ∷ []) parts.new) }
-    ensures err { OnErr result (AreHeld script.now before.now parts.new) }
+    requires next { IsLegalNext w.script (world_of w.script w.before) w.entry }
+    ensures ok { OnOk result (AreHeld w.script (w.before ++ w.entry ∷ []) parts.new) }
+    ensures err { OnErr result (AreHeld w.script w.before parts.new) }
 {
     match &entry.kind {
         Kind::Bind { b } => {
-            bind(parts, script, before, entry, thread, *b);
+            bind(parts, thread, *b);
             Ok(())
         }
         Kind::Unbind { b } => {
-            unbind(parts, script, before, entry, thread, *b);
+            unbind(parts, thread, *b);
             Ok(())
         }
         Kind::Move { b, mem, num, left } => {
-            move_buffer(
-                parts, alloc, script, before, entry, thread, *b, *mem, *num, *left,
-            )
+            move_buffer(parts, alloc, thread, *b, *mem, *num, *left)
         }
         _ => unreachable!(),
     }
 }
 
 /// Applies an entry of `thread` on frames for a buffer to the parts.
-fn make_fill(parts: &mut Parts, script: &Script, before: &[Entry], entry: &Entry, thread: u32)
-    requires held { AreHeld script.now before.now parts.old }
+fn make_fill(parts: &mut Parts, entry: &Entry, thread: u32)
+    ghost w: { Next }
+    requires entry { w.entry ≡ entry.now }
+    requires held { AreHeld w.script w.before parts.old }
     requires who { entry.now.who ≡ actor.Thread thread }
     requires theme { words.theme_of entry.now.kind ≡ theme.Fill }
-    requires next { IsLegalNext script.now (world_of script.now before.now) entry.now }
-    ensures { AreHeld script.now (before.now ++ entry.now ∷ []) parts.new }
+    requires next { IsLegalNext w.script (world_of w.script w.before) w.entry }
+    ensures { AreHeld w.script (w.before ++ w.entry ∷ []) parts.new }
 {
     match &entry.kind {
         Kind::Populate { b, page, frame } => {
-            populate(parts, script, before, entry, thread, *b, *page, *frame);
+            populate(parts, thread, *b, *page, *frame);
         }
         Kind::SwapIn {
             b,
@@ -134,44 +126,38 @@ fn make_fill(parts: &mut Parts, script: &Script, before: &[Entry], entry: &Entry
             slot,
             frame,
         } => {
-            swap_in(
-                parts, script, before, entry, thread, *b, *page, *slot, *frame,
-            );
+            swap_in(parts, thread, *b, *page, *slot, *frame);
         }
-        Kind::NoPages { b } => no_pages(parts, script, before, entry, thread, *b),
+        Kind::NoPages { b } => no_pages(parts, thread, *b),
         _ => unreachable!(),
     }
 }
 
 /// Applies an entry of `thread` on frames that are given away, or on a victim that is let go, to the parts.
-fn make_empty(
-    parts: &mut Parts,
-    script: &Script,
-    before: &[Entry],
-    entry: &Entry,
-    thread: u32,
-) -> Result<(), NoMemory>
-    requires held { AreHeld script.now before.now parts.old }
+fn make_empty(parts: &mut Parts, entry: &Entry, thread: u32) -> Result<(), NoMemory>
+    ghost w: { Next }
+    requires entry { w.entry ≡ entry.now }
+    requires held { AreHeld w.script w.before parts.old }
     requires who { entry.now.who ≡ actor.Thread thread }
     requires theme { words.theme_of entry.now.kind ≡ theme.Empty }
-    requires next { IsLegalNext script.now (world_of script.now before.now) entry.now }
-    ensures ok { OnOk result (AreHeld script.now (before.now ++ entry.now ∷ []) parts.new) }
-    ensures err { OnErr result (AreHeld script.now before.now parts.new) }
+    requires next { IsLegalNext w.script (world_of w.script w.before) w.entry }
+    ensures ok { OnOk result (AreHeld w.script (w.before ++ w.entry ∷ []) parts.new) }
+    ensures err { OnErr result (AreHeld w.script w.before parts.new) }
 {
     match &entry.kind {
         Kind::Depopulate { b } => {
-            depopulate(parts, script, before, entry, thread, *b);
+            depopulate(parts, thread, *b);
             Ok(())
         }
         Kind::SwapOut { b, page, slot } => {
-            swap_out(parts, script, before, entry, thread, *b, *page, *slot);
+            swap_out(parts, thread, *b, *page, *slot);
             Ok(())
         }
         Kind::Loose { b } => {
-            loose(parts, script, before, entry, thread, *b);
+            loose(parts, thread, *b);
             Ok(())
         }
-        Kind::Skip { b } => skip(parts, script, before, entry, thread, *b),
+        Kind::Skip { b } => skip(parts, thread, *b),
         _ => unreachable!(),
     }
 }
@@ -181,30 +167,30 @@ fn make_act(
     parts: &mut Parts,
     alloc: Global,
     script: &Script,
-    before: &[Entry],
     entry: &Entry,
     thread: u32,
 ) -> Result<(), NoMemory>
-    requires held { AreHeld script.now before.now parts.old }
+    ghost w: { Next }
+    requires script { w.script ≡ script.now }
+    requires entry { w.entry ≡ entry.now }
+    requires held { AreHeld w.script w.before parts.old }
     requires who { entry.now.who ≡ actor.Thread thread }
     requires theme { words.theme_of entry.now.kind ≡ theme.Act }
-    requires next { IsLegalNext script.now (world_of script.now before.now) entry.now }
-    ensures ok { OnOk result (AreHeld script.now (before.now ++ entry.now ∷ []) parts.new) }
-    ensures err { OnErr result (AreHeld script.now before.now parts.new) }
+    requires next { IsLegalNext w.script (world_of w.script w.before) w.entry }
+    ensures ok { OnOk result (AreHeld w.script (w.before ++ w.entry ∷ []) parts.new) }
+    ensures err { OnErr result (AreHeld w.script w.before parts.new) }
 {
     match &entry.kind {
-        Kind::New { b } => make(parts, script, before, entry, thread, *b),
-        Kind::Free { b, g } => free(parts, alloc, script, before, entry, thread, *b, *g),
-        Kind::Arm { engine, num } => {
-            arm(parts, alloc, script, before, entry, thread, *engine, *num)
-        }
+        Kind::New { b } => make(parts, script, thread, *b),
+        Kind::Free { b, g } => free(parts, alloc, thread, *b, *g),
+        Kind::Arm { engine, num } => { arm(parts, alloc, script, thread, *engine, *num) }
         Kind::Bulk { group } => {
-            bulk(parts, script, before, entry, thread, *group);
+            bulk(parts, thread, *group);
             Ok(())
         }
-        Kind::Result { shown } => { answer(parts, alloc, script, before, entry, thread, shown) }
+        Kind::Result { shown } => { answer(parts, alloc, script, thread, shown) }
         Kind::Refused { deny } => {
-            refuse(parts, alloc, script, before, entry, thread, *deny);
+            refuse(parts, alloc, thread, *deny);
             Ok(())
         }
         _ => unreachable!(),
@@ -216,26 +202,28 @@ pub(crate) fn make_of_thread(
     parts: &mut Parts,
     alloc: Global,
     script: &Script,
-    before: &[Entry],
     entry: &Entry,
     thread: u32,
 ) -> Result<(), NoMemory>
-    requires held { AreHeld script.now before.now parts.old }
+    ghost w: { Next }
+    requires script { w.script ≡ script.now }
+    requires entry { w.entry ≡ entry.now }
+    requires held { AreHeld w.script w.before parts.old }
     requires who { entry.now.who ≡ actor.Thread thread }
-    requires next { IsLegalNext script.now (world_of script.now before.now) entry.now }
-    ensures ok { OnOk result (AreHeld script.now (before.now ++ entry.now ∷ []) parts.new) }
-    ensures err { OnErr result (AreHeld script.now before.now parts.new) }
+    requires next { IsLegalNext w.script (world_of w.script w.before) w.entry }
+    ensures ok { OnOk result (AreHeld w.script (w.before ++ w.entry ∷ []) parts.new) }
+    ensures err { OnErr result (AreHeld w.script w.before parts.new) }
 {
     match theme_of(&entry.kind) {
-        Theme::Lock => make_lock(parts, script, before, entry, thread),
-        Theme::Search => make_search(parts, alloc, script, before, entry, thread),
-        Theme::Carry => make_carry(parts, alloc, script, before, entry, thread),
+        Theme::Lock => make_lock(parts, entry, thread),
+        Theme::Search => make_search(parts, alloc, script, entry, thread),
+        Theme::Carry => make_carry(parts, alloc, entry, thread),
         Theme::Fill => {
-            make_fill(parts, script, before, entry, thread);
+            make_fill(parts, entry, thread);
             Ok(())
         }
-        Theme::Empty => make_empty(parts, script, before, entry, thread),
-        Theme::Act => make_act(parts, alloc, script, before, entry, thread),
+        Theme::Empty => make_empty(parts, entry, thread),
+        Theme::Act => make_act(parts, alloc, script, entry, thread),
         Theme::Worker => unreachable!(),
     }
 }

@@ -4,9 +4,9 @@ ghost use Rattle.journal_model.specs.declared.entry.Kind.TheVariants as kind;
 ghost use Rattle.journal_model.specs.rules.Legal.{IsLegalNext, world_of};
 ghost use Rattle.lru_bulk.specs.Lists.{relisted};
 ghost use Rattle.room_representation.specs.Held.{AreHeld};
+ghost use Rattle.room_representation.specs.Nexts.{Next};
 
 use crate::room_binds::apertures::{give_mapped, map_target};
-use journal_model::{Entry, Script};
 use lru_bulk::Lru;
 use room_representation::Parts;
 use ttm_base::{BufId, Mem, Owner};
@@ -21,18 +21,12 @@ pub fn relist(lru: &mut Lru, b: BufId, mem: Mem)
 }
 
 /// Moves buffer `b` from SYSTEM to its target in TT: its frames stay, and are mapped there.
-pub fn bind(
-    parts: &mut Parts,
-    script: &Script,
-    before: &[Entry],
-    entry: &Entry,
-    thread: u32,
-    b: BufId,
-)
-    requires held { AreHeld script.now before.now parts.old }
-    requires is { entry.now ≡ record { who = actor.Thread thread; kind = kind.Bind b } }
-    requires next { IsLegalNext script.now (world_of script.now before.now) entry.now }
-    ensures { AreHeld script.now (before.now ++ entry.now ∷ []) parts.new }
+pub fn bind(parts: &mut Parts, thread: u32, b: BufId)
+    ghost w: { Next }
+    requires held { AreHeld w.script w.before parts.old }
+    requires is { w.entry ≡ record { who = actor.Thread thread; kind = kind.Bind b } }
+    requires next { IsLegalNext w.script (world_of w.script w.before) w.entry }
+    ensures { AreHeld w.script (w.before ++ w.entry ∷ []) parts.new }
 {
     parts.lru.members_stand_once();
     let bo = parts.bos.get(b);
@@ -42,18 +36,12 @@ pub fn bind(
 }
 
 /// Moves buffer `b` from TT to SYSTEM: its frames stay, and its pages of TT are free.
-pub fn unbind(
-    parts: &mut Parts,
-    script: &Script,
-    before: &[Entry],
-    entry: &Entry,
-    thread: u32,
-    b: BufId,
-)
-    requires held { AreHeld script.now before.now parts.old }
-    requires is { entry.now ≡ record { who = actor.Thread thread; kind = kind.Unbind b } }
-    requires next { IsLegalNext script.now (world_of script.now before.now) entry.now }
-    ensures { AreHeld script.now (before.now ++ entry.now ∷ []) parts.new }
+pub fn unbind(parts: &mut Parts, thread: u32, b: BufId)
+    ghost w: { Next }
+    requires held { AreHeld w.script w.before parts.old }
+    requires is { w.entry ≡ record { who = actor.Thread thread; kind = kind.Unbind b } }
+    requires next { IsLegalNext w.script (world_of w.script w.before) w.entry }
+    ensures { AreHeld w.script (w.before ++ w.entry ∷ []) parts.new }
 {
     parts.lru.members_stand_once();
     give_mapped(&mut parts.stores.aper, &mut parts.tt, Owner::Live(b));

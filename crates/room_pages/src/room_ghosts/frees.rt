@@ -3,6 +3,7 @@ ghost use Rattle.ttm_base.specs.declared.Actor.TheVariants as actor;
 ghost use Rattle.journal_model.specs.declared.entry.Kind.TheVariants as kind;
 ghost use Rattle.journal_model.specs.rules.Legal.{IsLegalNext, world_of};
 ghost use Rattle.room_representation.specs.Held.{AreHeld};
+ghost use Rattle.room_representation.specs.Nexts.{Next};
 ghost use Rattle.room_pages.specs.room_ghosts.Leaving.{off_list};
 
 use crate::give_frames;
@@ -10,7 +11,6 @@ use crate::room_binds::{give_back, give_mapped, pass_on};
 use crate::room_ghosts::courses::has_freed;
 use crate::room_ghosts::leaving::ghost_of;
 use crate::room_ghosts::pages::drop_slots;
-use journal_model::{Entry, Script};
 use lru_bulk::Lru;
 use room_representation::Parts;
 use std::alloc::Global;
@@ -26,18 +26,12 @@ fn take_off(lru: &mut Lru, b: BufId)
 }
 
 /// Frees buffer `b`, whose jobs are done: all that it has is free, and its pages of TT are no longer mapped.
-fn free_idle(
-    parts: &mut Parts,
-    script: &Script,
-    before: &[Entry],
-    entry: &Entry,
-    thread: u32,
-    b: BufId,
-)
-    requires held { AreHeld script.now before.now parts.old }
-    requires is { entry.now ≡ record { who = actor.Thread thread; kind = kind.Free b 0 } }
-    requires next { IsLegalNext script.now (world_of script.now before.now) entry.now }
-    ensures { AreHeld script.now (before.now ++ entry.now ∷ []) parts.new }
+fn free_idle(parts: &mut Parts, thread: u32, b: BufId)
+    ghost w: { Next }
+    requires held { AreHeld w.script w.before parts.old }
+    requires is { w.entry ≡ record { who = actor.Thread thread; kind = kind.Free b 0 } }
+    requires next { IsLegalNext w.script (world_of w.script w.before) w.entry }
+    ensures { AreHeld w.script (w.before ++ w.entry ∷ []) parts.new }
 {
     parts.lru.members_stand_once();
     let bo = parts.bos.get(b);
@@ -51,24 +45,16 @@ fn free_idle(
 }
 
 /// Frees buffer `b`. Where jobs still use it, ghost number `g` takes over its spans and frames, which stay mapped, and its jobs; else `g` is 0.
-pub fn free(
-    parts: &mut Parts,
-    alloc: Global,
-    script: &Script,
-    before: &[Entry],
-    entry: &Entry,
-    thread: u32,
-    b: BufId,
-    g: u64,
-) -> Result<(), NoMemory>
-    requires held { AreHeld script.now before.now parts.old }
-    requires is { entry.now ≡ record { who = actor.Thread thread; kind = kind.Free b g } }
-    requires next { IsLegalNext script.now (world_of script.now before.now) entry.now }
-    ensures ok { OnOk result (AreHeld script.now (before.now ++ entry.now ∷ []) parts.new) }
-    ensures err { OnErr result (AreHeld script.now before.now parts.new) }
+pub fn free(parts: &mut Parts, alloc: Global, thread: u32, b: BufId, g: u64) -> Result<(), NoMemory>
+    ghost w: { Next }
+    requires held { AreHeld w.script w.before parts.old }
+    requires is { w.entry ≡ record { who = actor.Thread thread; kind = kind.Free b g } }
+    requires next { IsLegalNext w.script (world_of w.script w.before) w.entry }
+    ensures ok { OnOk result (AreHeld w.script (w.before ++ w.entry ∷ []) parts.new) }
+    ensures err { OnErr result (AreHeld w.script w.before parts.new) }
 {
     if g == 0 {
-        free_idle(parts, script, before, entry, thread, b);
+        free_idle(parts, thread, b);
         return Ok(());
     }
     parts.lru.members_stand_once();

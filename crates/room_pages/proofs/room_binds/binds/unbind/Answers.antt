@@ -2,9 +2,9 @@ use Rattle.room_pages.proofs.room_binds.Unbound.{unbind_below, unbind_held}
 use Rattle.room_pages.proofs.room_binds.binds.unbind.Goals as goal
 
 pub give_mapped-requires : goal.give_mapped-requires
-give_mapped-requires c = unbind_below c.args.script.now c.args.before.now c.args.parts.now c.args.entry.now c.args.thread c.args.b c.requires.held c.requires.is c.requires.next
+give_mapped-requires g c = unbind_below g.w.script g.w.before c.args.parts.now g.w.entry c.args.thread c.args.b c.requires.0 c.requires.1.0 c.requires.1.1
 
 pub returns : goal.returns
-returns c =
-    unbind_held c.args.script.now c.args.before.now c.args.parts.now c.args.entry.now c.args.thread c.args.b c.requires.held c.requires.is c.requires.next c.give_mapped.new.aper c.give_mapped.new.tt c.unbind.new.self c.relist.new.lru c.give_mapped.ensures.aper
+returns g c =
+    unbind_held g.w.script g.w.before c.args.parts.now g.w.entry c.args.thread c.args.b c.requires.0 c.requires.1.0 c.requires.1.1 c.give_mapped.new.aper c.give_mapped.new.tt c.unbind.new.self c.relist.new.lru c.give_mapped.ensures.aper
     c.give_mapped.ensures.tt c.unbind.ensures c.relist.ensures c.members_stand_once.ensures.listed

@@ -9,22 +9,22 @@ use Rattle.room_pages.proofs.room_ghosts.Loops.{dropped}
 use Rattle.room_pages.proofs.room_ghosts.frees.free_idle.Goals as goal
 
 pub get-bo-requires : goal.get-bo-requires
-get-bo-requires c = free_below c.args.script.now c.args.before.now c.args.parts.now c.args.entry.now c.args.thread c.args.b 0 c.requires.held c.requires.is c.requires.next
+get-bo-requires g c = free_below g.w.script g.w.before c.args.parts.now g.w.entry c.args.thread c.args.b 0 c.requires.0 c.requires.1.0 c.requires.1.1
 
 pub give_mapped-requires : goal.give_mapped-requires
-give_mapped-requires c = free_pages c.args.script.now c.args.before.now c.args.parts.now c.args.entry.now c.args.thread c.args.b 0 c.requires.held c.requires.is c.requires.next
+give_mapped-requires g c = free_pages g.w.script g.w.before c.args.parts.now g.w.entry c.args.thread c.args.b 0 c.requires.0 c.requires.1.0 c.requires.1.1
 
 pub give_frames-requires : goal.give_frames-requires
-give_frames-requires c = subst (AreHeldInTurn c.args.parts.now.pool) (sym c.places.ensures) (free_frames c.args.script.now c.args.before.now c.args.parts.now c.args.entry.now c.args.thread c.args.b 0 c.requires.held c.requires.is c.requires.next _ c.get-bo.ensures)
+give_frames-requires g c = subst (AreHeldInTurn c.args.parts.now.pool) (sym c.places.ensures) (free_frames g.w.script g.w.before c.args.parts.now g.w.entry c.args.thread c.args.b 0 c.requires.0 c.requires.1.0 c.requires.1.1 _ c.get-bo.ensures)
 
 pub drop_slots-requires : goal.drop_slots-requires
-drop_slots-requires c = subst (AreHeldAlong slot_of c.args.parts.now.swap.held) (sym c.places-2.ensures) (free_held_slots c.args.script.now c.args.before.now c.args.parts.now c.args.entry.now c.args.thread c.args.b 0 c.requires.held c.requires.is c.requires.next _ c.get-bo.ensures)
+drop_slots-requires g c = subst (AreHeldAlong slot_of c.args.parts.now.swap.held) (sym c.places-2.ensures) (free_held_slots g.w.script g.w.before c.args.parts.now g.w.entry c.args.thread c.args.b 0 c.requires.0 c.requires.1.0 c.requires.1.1 _ c.get-bo.ensures)
 
 pub has_freed-requires : goal.has_freed-requires
-has_freed-requires c = free_there c.args.script.now c.args.before.now c.args.parts.now c.args.entry.now c.args.thread c.args.b 0 c.requires.held c.requires.is c.requires.next
+has_freed-requires g c = free_there g.w.script g.w.before c.args.parts.now g.w.entry c.args.thread c.args.b 0 c.requires.0 c.requires.1.0 c.requires.1.1
 
 pub returns : goal.returns
-returns c =
-    idle_held c.args.script.now c.args.before.now c.args.parts.now c.args.entry.now c.args.thread c.args.b c.requires.held c.requires.is c.requires.next _ c.get-bo.ensures c.give_back.new.room c.give_mapped.new.tt c.give_mapped.new.aper c.give_frames.new.pool c.drop_slots.new.swap c.kill.new.self c.take_off.new.lru
+returns g c =
+    idle_held g.w.script g.w.before c.args.parts.now g.w.entry c.args.thread c.args.b c.requires.0 c.requires.1.0 c.requires.1.1 _ c.get-bo.ensures c.give_back.new.room c.give_mapped.new.tt c.give_mapped.new.aper c.give_frames.new.pool c.drop_slots.new.swap c.kill.new.self c.take_off.new.lru
     c.has_freed.new.courses c.give_back.ensures.held c.give_back.ensures.rule c.give_mapped.ensures.tt c.give_mapped.ensures.aper (c.give_frames.ensures ∙ ap (λ places. given_back c.args.parts.now.pool (filter_map frame_of places)) c.places.ensures)
     (c.drop_slots.ensures ∙ ap (dropped c.args.parts.now.swap) c.places-2.ensures) c.kill.ensures c.take_off.ensures c.members_stand_once.ensures.listed c.has_freed.ensures
