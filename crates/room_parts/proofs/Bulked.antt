@@ -1,5 +1,5 @@
 -- All parts after a bulk move.
-use Rattle.std.proofs.Common.{◌≡◌, ℕ, ◌<◌, Bool, true, List, [], ◌∷◌, ◌++◌, IsSome, refl, sym, ◌∙◌, ap, subst, arith}
+use Rattle.std.proofs.Common.{◌≡◌, ℕ, ◌<◌, true, List, [], ◌∷◌, ◌++◌, IsSome, refl, sym, ◌∙◌, ap, subst, arith}
 use Rattle.std.specs.Prelude.{map, nat_le}
 use Rattle.std.proofs.lemmas.Bool.Decides.{nat_tests}
 use Rattle.ttm_base.specs.declared.Actor.TheVariants as actor
@@ -7,14 +7,13 @@ use Rattle.lru_bulk.specs.Lists.{Order, bulk_moved}
 use Rattle.lru_bulk.specs.Members.{AreMembersListed}
 use Rattle.journal_model.specs.declared.script.Script.{Script}
 use Rattle.journal_model.specs.declared.script.Command.{Command}
-use Rattle.journal_model.specs.declared.script.Command.TheVariants as command
 use Rattle.journal_model.specs.declared.state.State.{State}
 use Rattle.journal_model.specs.declared.state.Course.{Course}
 use Rattle.journal_model.specs.declared.state.Task.{Task}
 use Rattle.journal_model.specs.declared.entry.Entry.{Entry}
 use Rattle.journal_model.specs.declared.entry.Kind.TheVariants as kind
 use Rattle.journal_model.specs.rules.State.{course}
-use Rattle.journal_model.specs.rules.ApplyCommands.{has_made, after_bulk}
+use Rattle.journal_model.specs.rules.ApplyCommands.{has_made}
 use Rattle.journal_model.specs.scripts.CommandRules.{is_command}
 use Rattle.journal_model.specs.rules.Lists as state
 use Rattle.journal_model.specs.rules.Legal.{IsLegalNext, state_of, stores_of, world_of}

@@ -24,7 +24,7 @@ use Rattle.journal_model.specs.declared.entry.Kind.TheVariants as kind
 use Rattle.journal_model.specs.rules.State.{changed, course, buffer, reservation, reservation_in, reservation_changed, has_buffer}
 use Rattle.journal_model.specs.rules.ApplyCommands.{with_holder}
 use Rattle.journal_model.specs.rules.ApplyPages as pages
-use Rattle.journal_model.specs.rules.ApplyVictims.{leaves_tt, with_victim, with_skip, no_longer_caught, with_fail, after_catch}
+use Rattle.journal_model.specs.rules.ApplyVictims.{leaves_tt, with_victim, with_skip, no_longer_caught, with_fail}
 use Rattle.journal_model.specs.rules.Choice.{reach_of}
 use Rattle.journal_model.specs.rules.Dry.{is_loose, is_evictable, has_frame}
 use Rattle.journal_model.specs.rules.Lists as state
@@ -35,7 +35,6 @@ use Rattle.laws.proofs.law_sound.Bufs.{found_passes}
 use Rattle.laws.proofs.law_sound.Gifts.{Gives, seeks, fills, evicts, evicts_for_swap}
 use Rattle.room_representation.specs.lemma_room_lists.Listed.{AreListed}
 use Rattle.room_representation.proofs.lemma_room_lists.KindLaws.{reservation_changed_unseen, loose_lists}
-use Rattle.room_representation.proofs.lemma_room_jobs.Stays.{KeepsPlaces}
 use Rattle.room_representation.proofs.lemma_room_spans.Still.{catch_spans}
 use Rattle.room_representation.specs.declared.parts.Parts.{Parts}
 use Rattle.room_representation.specs.Bos.{unfenced}

@@ -1,6 +1,6 @@
 -- All parts after a place that is dry.
-use Rattle.std.proofs.Common.{◌≡◌, ℕ, zero, suc, ◌+◌, ◌^◌, ◌<◌, ◌≤◌, Bool, true, false, List, [], ◌∷◌, ◌++◌, ◌⊎◌, inl, inr, Option, Some, None, IsSome, cond, length, refl, sym, ◌∙◌, ap, subst, arith}
-use Rattle.std.specs.Prelude.{◌==◌, ◌||◌, ◌&&◌, filter, map, not, nat_le, nat_lt, slice_get, unwrap_or, if◌then◌else◌}
+use Rattle.std.proofs.Common.{◌≡◌, ℕ, suc, ◌+◌, ◌^◌, ◌<◌, ◌≤◌, Bool, true, false, List, [], ◌∷◌, ◌++◌, ◌⊎◌, inl, inr, Option, Some, None, IsSome, cond, length, refl, sym, ◌∙◌, ap, subst, arith}
+use Rattle.std.specs.Prelude.{◌==◌, ◌||◌, ◌&&◌, filter, map, not, slice_get, unwrap_or, if◌then◌else◌}
 use Rattle.std.specs.List.{list_all}
 use Rattle.std.proofs.lemmas.Bool.{and_parts}
 use Rattle.std.proofs.lemmas.Bool.Decides.{nat_tests}
@@ -41,7 +41,7 @@ use Rattle.laws.proofs.law_sound.Turns.{Turn, OnBuffer, victim_search, ask, hop_
 use Rattle.laws.specs.lemma_bytes_told.Told.{IsThere}
 use Rattle.room_representation.specs.declared.parts.Parts.{Parts}
 use Rattle.room_representation.specs.Held.{AreHeld}
-use Rattle.room_representation.specs.room_steps.Courses.{command_in, course_at, course_in, with_course_by}
+use Rattle.room_representation.specs.room_steps.Courses.{command_in, course_at, with_course_by}
 use Rattle.room_representation.proofs.room_steps.Few.{dry_few}
 use Rattle.room_representation.proofs.room_steps.Frames.{eased_represented}
 use Rattle.room_representation.proofs.room_steps.Lent.{is_below, is_there, lent_below, lent_is, stands_at}

@@ -1,5 +1,5 @@
 -- All parts after entries that give a page of a buffer a frame.
-use Rattle.std.proofs.Common.{◌≡◌, ℕ, ◌*◌, ◌+◌, ◌<◌, ◌≤◌, Bool, true, List, [], ◌∷◌, ◌++◌, Option, Some, None, length, refl, sym, ◌∙◌, ap, subst, arith}
+use Rattle.std.proofs.Common.{◌≡◌, ℕ, ◌*◌, ◌+◌, ◌<◌, ◌≤◌, Bool, true, List, [], ◌∷◌, ◌++◌, Option, Some, length, refl, sym, ◌∙◌, ap, subst, arith}
 use Rattle.std.specs.Prelude.{IfSome, not, position, slice_get, slice_set}
 use Rattle.ttm_base.specs.declared.Actor.TheVariants as actor
 use Rattle.ttm_base.specs.declared.BufId.{BufId}
@@ -16,7 +16,7 @@ use Rattle.journal_model.specs.rules.State.{buffer, live_in}
 use Rattle.journal_model.specs.rules.ApplyPages.{with_loc, after_populate}
 use Rattle.journal_model.specs.rules.Holds.{free_frame, held_frames}
 use Rattle.journal_model.specs.rules.Stores.{stores_after}
-use Rattle.journal_model.specs.rules.Legal.{World, IsLegalNext, state_of, stores_of, world_of, world_after}
+use Rattle.journal_model.specs.rules.Legal.{IsLegalNext, state_of, world_of, world_after}
 use Rattle.laws.specs.lemma_bytes_told.Told.{IsThere, Told, still, populates}
 use Rattle.laws.proofs.law_transparent.Carried.{told_law}
 use Rattle.room_representation.proofs.lemma_room_lists.KindLaws.{changed_unseen}

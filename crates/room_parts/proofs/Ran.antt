@@ -1,5 +1,5 @@
 -- All parts after entries of engines.
-use Rattle.std.proofs.Common.{◌≡◌, ℕ, ◌<◌, ◌≤◌, List, [], ◌∷◌, ◌++◌, Option, Some, None, IsSome, length, refl, sym, ◌∙◌, ap, subst}
+use Rattle.std.proofs.Common.{◌≡◌, ℕ, ◌<◌, List, [], ◌∷◌, ◌++◌, Option, Some, None, IsSome, length, refl, sym, subst}
 use Rattle.ttm_base.specs.declared.Actor.TheVariants as actor
 use Rattle.ttm_base.specs.declared.Packet.{Packet}
 use Rattle.fence_core.specs.declared.timeline.Progress.{Progress}
@@ -13,7 +13,7 @@ use Rattle.journal_model.specs.declared.script.Script.{Script}
 use Rattle.journal_model.specs.declared.entry.Entry.{Entry}
 use Rattle.journal_model.specs.declared.entry.Kind.TheVariants as kind
 use Rattle.journal_model.specs.rules.ApplyJobs.{after_done}
-use Rattle.journal_model.specs.rules.Legal.{World, IsLegalNext, state_of, stores_of, world_of, world_after}
+use Rattle.journal_model.specs.rules.Legal.{IsLegalNext, state_of, stores_of, world_of, world_after}
 use Rattle.laws.proofs.law_transparent.PacketPlacesLaw.{places_law}
 use Rattle.room_representation.specs.declared.parts.Parts.{Parts}
 use Rattle.room_representation.specs.Lines.{AreInLine}
@@ -22,7 +22,7 @@ use Rattle.room_representation.specs.Represents.{Represents}
 use Rattle.room_representation.proofs.lemma_room_jobs.Changed.{job_id, line_known, line_some}
 use Rattle.room_representation.proofs.lemma_room_jobs.Heads as heads
 use Rattle.room_representation.proofs.lemma_room_jobs.Heads.{IsEnd, IsRun, end_of, run_of}
-use Rattle.room_representation.proofs.lemma_room_jobs.LegalJobs.{IsShown, in_line, packet_shown}
+use Rattle.room_representation.proofs.lemma_room_jobs.LegalJobs.{in_line, packet_shown}
 use Rattle.room_representation.proofs.lemma_room_jobs.Rows.{head_known}
 use Rattle.room_representation.proofs.lemma_room_jobs.Represented.{done_represented, packet_runs, packet_represented}
 use Rattle.room_representation.proofs.room_steps.Steps.{held_after, held_still, step_as}

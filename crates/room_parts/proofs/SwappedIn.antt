@@ -1,6 +1,6 @@
 -- All parts after a page that comes back from its slot.
-use Rattle.std.proofs.Common.{◌≡◌, ℕ, zero, suc, ◌*◌, ◌+◌, ◌<◌, ◌≤◌, Bool, true, false, List, [], ◌∷◌, ◌++◌, Option, Some, None, length, refl, sym, ◌∙◌, ap, subst, arith}
-use Rattle.std.specs.Prelude.{IfSome, not, nat_eq, position, slice_get, slice_set, take, drop}
+use Rattle.std.proofs.Common.{◌≡◌, ℕ, zero, suc, ◌*◌, ◌+◌, ◌<◌, ◌≤◌, Bool, true, false, List, [], ◌∷◌, ◌++◌, Option, Some, length, refl, sym, ◌∙◌, ap, subst, arith}
+use Rattle.std.specs.Prelude.{IfSome, not, position, slice_get, slice_set, take, drop}
 use Rattle.std.proofs.lemmas.Bool.{eq-eqb}
 use Rattle.std.proofs.lemmas.List.{length-drop}
 use Rattle.ttm_base.specs.declared.Actor.TheVariants as actor
@@ -18,9 +18,9 @@ use Rattle.journal_model.specs.declared.entry.Kind.TheVariants as kind
 use Rattle.journal_model.specs.rules.State.{buffer, live_in}
 use Rattle.journal_model.specs.rules.ApplyPages.{with_loc, after_swap_in}
 use Rattle.journal_model.specs.rules.Holds.{free_frame, held_frames, held_slots}
-use Rattle.journal_model.specs.rules.Places.{slot_of, slots_of}
+use Rattle.journal_model.specs.rules.Places.{slot_of}
 use Rattle.journal_model.specs.rules.Stores.{stores_after, within}
-use Rattle.journal_model.specs.rules.Legal.{World, IsLegalNext, state_of, world_of, world_after}
+use Rattle.journal_model.specs.rules.Legal.{IsLegalNext, state_of, world_of, world_after}
 use Rattle.laws.proofs.law_owners.Counts.{one, times}
 use Rattle.laws.proofs.law_owners.Keeps.{in_loc}
 use Rattle.laws.proofs.law_owners.Law.{owner_law}

@@ -1,6 +1,6 @@
 -- All parts after a target that was found.
-use Rattle.std.proofs.Common.{◌≡◌, ℕ, ◌<◌, ◌≤◌, Bool, true, false, List, [], ◌∷◌, ◌++◌, Option, Some, None, IsSome, Ok, length, refl, sym, ◌∙◌, ap, ap₂, subst, arith}
-use Rattle.std.specs.Prelude.{map, option_map, slice_get, if◌then◌else◌}
+use Rattle.std.proofs.Common.{◌≡◌, ℕ, ◌<◌, ◌≤◌, true, List, [], ◌∷◌, ◌++◌, Option, Some, None, IsSome, Ok, length, refl, sym, ◌∙◌, ap, ap₂, subst, arith}
+use Rattle.std.specs.Prelude.{option_map, slice_get, if◌then◌else◌}
 use Rattle.ttm_base.specs.Reach.{same_mem}
 use Rattle.std.proofs.lemmas.Bool.Decides.{nat_tests}
 use Rattle.ttm_base.specs.declared.Actor.TheVariants as actor
@@ -39,7 +39,7 @@ use Rattle.room_representation.specs.lemma_room_spans.Calls.{taken}
 use Rattle.room_representation.specs.lemma_room_spans.Owned.{HoldsAsIn}
 use Rattle.room_representation.proofs.lemma_room_spans.Facts.{no_target}
 use Rattle.room_representation.proofs.lemma_room_spans.MoveFence.{taken_fence}
-use Rattle.room_representation.proofs.lemma_room_spans.Legal.{IsSearchPlaces, take_sought}
+use Rattle.room_representation.proofs.lemma_room_spans.Legal.{take_sought}
 use Rattle.room_representation.proofs.lemma_room_spans.Still.{kept_representation}
 use Rattle.room_representation.proofs.lemma_room_spans.Taken.{take_may_hold}
 use Rattle.room_representation.proofs.lemma_room_spans.Targets.{take_spans}
@@ -47,7 +47,6 @@ use Rattle.room_representation.specs.declared.parts.Parts.{Parts}
 use Rattle.room_representation.specs.Bos.{AreBos, unfenced}
 use Rattle.room_representation.specs.Fences.{fences_of, is_emitted, AreFences}
 use Rattle.room_representation.specs.Held.{AreHeld}
-use Rattle.room_representation.specs.Managers.{IsTt}
 use Rattle.room_representation.specs.Represents.{Represents}
 use Rattle.room_representation.proofs.lemma_room_jobs.Sets.{fences_kept, set_length}
 use Rattle.room_representation.proofs.lemma_room_jobs.Stays.{KeepsPlaces}

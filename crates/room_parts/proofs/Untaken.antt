@@ -1,26 +1,23 @@
 -- All parts after entries on targets.
-use Rattle.std.proofs.Common.{◌≡◌, ℕ, List, [], ◌∷◌, ◌++◌, Option, None, Some, Ok, refl, sym, ◌∙◌, ap, subst}
+use Rattle.std.proofs.Common.{◌≡◌, ℕ, List, [], ◌∷◌, ◌++◌, Option, None, refl, sym, ◌∙◌, ap, subst}
 use Rattle.ttm_base.specs.declared.Actor.TheVariants as actor
 use Rattle.ttm_base.specs.declared.BufId.{BufId}
 use Rattle.ttm_base.specs.declared.Mem.{Mem}
-use Rattle.ttm_base.specs.declared.Mem.TheVariants.{System, Tt, Vram}
+use Rattle.ttm_base.specs.declared.Mem.TheVariants.{Tt, Vram}
 use Rattle.resource_core.specs.Resources.{Resources}
 use Rattle.resource_core.specs.Vram as room
 use Rattle.bo_table.specs.Seen.{Bos, with_changed}
 use Rattle.journal_model.specs.declared.script.Script.{Script}
 use Rattle.journal_model.specs.declared.state.State.{State}
-use Rattle.journal_model.specs.declared.state.Buffer.{Buffer}
 use Rattle.journal_model.specs.declared.entry.Entry.{Entry}
-use Rattle.journal_model.specs.declared.entry.Kind.{Kind}
 use Rattle.journal_model.specs.declared.entry.Kind.TheVariants as kind
 use Rattle.journal_model.specs.rules.ApplyPages.{with_spans, after_untake}
 use Rattle.journal_model.specs.rules.Legal.{IsLegalNext, state_of, stores_of, world_of}
 use Rattle.laws.specs.lemma_bytes_told.Told.{IsThere, Told, still, untakes}
 use Rattle.laws.proofs.law_transparent.Carried.{told_law}
-use Rattle.room_representation.specs.lemma_room_spans.Calls.{untaken, given}
+use Rattle.room_representation.specs.lemma_room_spans.Calls.{untaken}
 use Rattle.room_representation.proofs.lemma_room_spans.Targets.{untake_spans}
 use Rattle.ttm_base.specs.declared.Span.{Span}
-use Rattle.ttm_base.specs.declared.Owner.TheVariants as owner
 use Rattle.room_representation.specs.declared.parts.Parts.{Parts}
 use Rattle.room_representation.specs.Held.{AreHeld}
 use Rattle.room_representation.specs.Managers.{IsTt}

@@ -1,5 +1,5 @@
 -- When the manager of a memory type can hold spans for an owner.
-use Rattle.std.specs.Prelude.{◌≡◌, ℕ, ◌≤◌, false, List, length}
+use Rattle.std.specs.Prelude.{◌≡◌, ◌≤◌, false, List, length}
 use Rattle.ttm_base.specs.declared.Owner.{Owner}
 use Rattle.ttm_base.specs.declared.Span.{Span}
 use Rattle.buddy_manager.specs.Taking.{AreTaken}

@@ -1,7 +1,7 @@
 use Rattle.std.proofs.Common.{◌∙◌, ap, Some}
 use Rattle.bo_table.specs.Seen.{with_changed}
 use Rattle.journal_model.specs.rules.ApplyPages.{with_spans}
-use Rattle.room_parts.proofs.Taken.{take_refused, take_there, take_vram, take_tt, take_joins, take_held}
+use Rattle.room_parts.proofs.Taken.{take_there, take_vram, take_tt, take_joins, take_held}
 use Rattle.room_parts.proofs.targets.take.Goals as goal
 
 pub hold_target-requires-clause-vram : goal.hold_target-requires-clause-vram
