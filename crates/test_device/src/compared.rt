@@ -13,13 +13,14 @@ mod replay;
 mod report;
 mod told;
 
-use difference::{Difference, Stop, agree};
+use crate::pieces::print_all;
+use difference::{Difference, Stop, agree, printed};
 use pair::Pair;
 use std::alloc::Global;
 use std::io;
 use std::io::{Error, ErrorKind};
 use test_cases::{Case, When};
-use told::{print_mapping, print_numbered, print_parts, print_turn};
+use told::{print_mapping, print_parts, print_turn};
 
 /// The number of turns in the simulator's order that follow the steps of a case at most.
 const MOST_TURNS: usize = 1_000_000;
@@ -30,21 +31,20 @@ fn take_turn(rt: &impl Print, pair: &mut Pair, case: &Case, at: usize) -> Result
     requires { AreInStep pair.old.replay.plain pair.old.replay.rooms }
     ensures { OnOk result (AreInStep pair.new.replay.plain pair.new.replay.rooms) }
 {
-    if let Some(who) = case.steps.as_slice().get(at) {
-        let turn = pair.step(*who)?;
-        if case.tells_turns {
-            print_turn(rt, *who, turn)?;
-        }
-        return Ok(true);
+    match case.steps.as_slice().get(at) {
+        Some(who) => match pair.step(*who) {
+            Ok(turn) => printed(print_turn(rt, case, *who, turn), true),
+            Err(stop) => Err(stop),
+        },
+        None if case.to_the_end => match pair.step_next() {
+            Ok(is_taken) => printed(
+                print_mapping(rt, case, is_taken, &pair.asked.device),
+                is_taken,
+            ),
+            Err(stop) => Err(stop),
+        },
+        None => Ok(false),
     }
-    if !case.to_the_end {
-        return Ok(false);
-    }
-    let is_taken = pair.step_next()?;
-    if case.shows_mapping & is_taken {
-        print_mapping(rt, &pair.asked.device)?;
-    }
-    Ok(is_taken)
 }
 
 /// Takes all turns of a case, and compares what there is before, after each and at the end.
@@ -60,30 +60,50 @@ fn take_all(rt: &impl Print, pair: &mut Pair, case: &Case) -> Result<(), Stop>
     agree(false, "no end")
 }
 
-/// Prints that all agree, or what differs and after how many turns.
+/// Returns the words for the number of turns for which memory was lacking, and the number, if there was such a turn.
+fn words_of_refused(refused: u64) -> (&'static str, Option<u64>) {
+    if refused == 0 {
+        ("", None)
+    } else {
+        (", refused memory: ", Some(refused))
+    }
+}
+
+/// Prints that all agree, or what differs and after how many turns, and the number of turns that were `refused` memory.
 fn print_found(
     rt: &impl Print,
     turns: u64,
     entries: usize,
+    refused: u64,
     found: Result<(), Stop>,
 ) -> io::Result<()> {
+    let turns = Some(turns);
+    let entries = Some(entries as u64);
+    let refused = words_of_refused(refused);
+    let end = ("\n", None);
     match found {
-        Ok(()) => print!(rt; "agree, {turns} turns, {entries} entries"),
-        Err(Stop::Differs(Difference { what, number })) => {
-            print!(rt; "differ at turn {turns}: ")?;
-            print_numbered(rt, what, number)
-        }
+        Ok(()) => print_all(
+            rt,
+            &[
+                ("agree, ", turns),
+                (" turns, ", entries),
+                (" entries", None),
+                refused,
+                end,
+            ],
+        ),
+        Err(Stop::Differs(Difference { what, number })) => print_all(
+            rt,
+            &[
+                ("differ at turn ", turns),
+                (": ", None),
+                (what, number),
+                refused,
+                end,
+            ],
+        ),
         Err(Stop::NoOutput) => Err(Error::from(ErrorKind::WriteZero)),
         Err(_) => Err(Error::from(ErrorKind::OutOfMemory)),
-    }
-}
-
-/// Ends the line, with the number of turns for which memory was lacking, if there was one.
-fn end_line(rt: &impl Print, refused: u64) -> io::Result<()> {
-    if refused == 0 {
-        println!(rt; "")
-    } else {
-        println!(rt; ", refused memory: {refused}")
     }
 }
 
@@ -94,8 +114,8 @@ fn run_on(rt: &impl Print, case: &Case, pair: &mut Pair) -> io::Result<()>
     let found = take_all(rt, pair, case);
     let name = case.name.as_str();
     print!(rt; "{name}: ")?;
-    print_found(rt, pair.turns, pair.asked.device.journal().len(), found)?;
-    end_line(rt, pair.asked.refused)?;
+    let entries = pair.asked.device.journal().len();
+    print_found(rt, pair.turns, entries, pair.asked.refused, found)?;
     match pair.when {
         When::EachEntry => print_parts(rt, case, pair),
         When::AtTheEnd => Ok(()),

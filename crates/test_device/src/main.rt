@@ -4,6 +4,7 @@
 #![tactic(auto)]
 
 mod compared;
+mod pieces;
 mod program;
 mod threaded;
 
@@ -36,13 +37,17 @@ fn take_line(
 
 fn main(rt: HostRuntime) -> io::Result<()> {
     let alloc = rt.alloc();
+    let lines = BufReader::new(alloc, rt.reader())?.lines(alloc);
     let mut table = Table::new(alloc);
-    for line in BufReader::new(alloc, rt.reader())?.lines(alloc) {
-        let taken = match line {
+    let mut taken = Ok(());
+    for line in lines {
+        taken = match line {
             Ok(line) => take_line(&rt, alloc, &mut table, line.as_str()),
             Err(fault) => Err(fault),
         };
-        taken?;
+        if taken.is_err() {
+            break;
+        }
     }
-    Ok(())
+    taken
 }

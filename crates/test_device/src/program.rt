@@ -91,6 +91,20 @@ fn is_known(before: &Option<Outcome>, outcome: &Outcome) -> bool {
     }
 }
 
+/// Prints an outcome, unless it is the same as the one `before`, and what the watch saw.
+fn print_new(
+    rt: &impl Print,
+    case: &Case,
+    before: &Option<Outcome>,
+    outcome: &Outcome,
+    watch: &Watch,
+) -> io::Result<()> {
+    if !is_known(before, outcome) {
+        print_outcome(rt, case.name.as_str(), outcome)?;
+    }
+    watch.print(rt, case)
+}
+
 /// Runs a case with `chunk` bytes that a read or a write moves at most. Prints the outcome, unless it is the same as the one `before`, in
 /// whose place it is kept.
 fn run_by(
@@ -102,14 +116,9 @@ fn run_by(
 ) -> io::Result<()> {
     let watch = Watch::new(case.watched);
     let outcome = outcome_of(rt, alloc, case, chunk, &watch)?;
-    let printed = if is_known(before, &outcome) {
-        Ok(())
-    } else {
-        print_outcome(rt, case.name.as_str(), &outcome)
-    };
+    let printed = print_new(rt, case, before, &outcome, &watch);
     *before = Some(outcome);
-    printed?;
-    watch.print(rt, case)
+    printed
 }
 
 /// Runs a case with each number of bytes that a read or a write moves at most. Prints the first outcome, and any that isn't the same as the

@@ -1,39 +1,36 @@
-use page_accounts::Accounts;
-use resource_core::Manager;
+use page_accounts::{Account, Accounts};
+use resource_core::{Lengths, Manager};
 use room_representation::Parts;
+
+/// Returns whether both counts are the same for each owner.
+fn is_same(one: Account, other: Account) -> bool {
+    (one.free == other.free)
+        & (one.live == other.live)
+        & (one.target == other.target)
+        & (one.ghosts == other.ghosts)
+}
 
 /// Returns whether all counts of both are the same.
 pub fn are_same_accounts(one: &Accounts, other: &Accounts) -> bool {
-    (one.vram.free == other.vram.free)
-        & (one.vram.live == other.vram.live)
-        & (one.vram.target == other.vram.target)
-        & (one.vram.ghosts == other.vram.ghosts)
-        & (one.tt.free == other.tt.free)
-        & (one.tt.live == other.tt.live)
-        & (one.tt.target == other.tt.target)
-        & (one.tt.ghosts == other.tt.ghosts)
-        & (one.frames.free == other.frames.free)
-        & (one.frames.live == other.frames.live)
-        & (one.frames.target == other.frames.target)
-        & (one.frames.ghosts == other.frames.ghosts)
-        & (one.swap.free == other.swap.free)
-        & (one.swap.live == other.swap.live)
-        & (one.swap.target == other.swap.target)
-        & (one.swap.ghosts == other.swap.ghosts)
+    is_same(one.vram, other.vram)
+        & is_same(one.tt, other.tt)
+        & is_same(one.frames, other.frames)
+        & is_same(one.swap, other.swap)
+}
+
+/// Returns the account of a memory type whose lists have these lengths.
+fn account_of(lengths: Lengths) -> Account {
+    Account {
+        free: u64::from(lengths.free),
+        live: u64::from(lengths.live),
+        target: u64::from(lengths.targets),
+        ghosts: u64::from(lengths.ghosts),
+    }
 }
 
 /// Returns whether the managers and the pool keep these counts.
 pub fn are_kept(parts: &Parts, accounts: &Accounts) -> bool {
-    let vram = parts.vram.lengths();
-    let tt = parts.tt.lengths();
-    let frames = parts.pool.free();
-    (vram.free as u64 == accounts.vram.free)
-        & (vram.live as u64 == accounts.vram.live)
-        & (vram.targets as u64 == accounts.vram.target)
-        & (vram.ghosts as u64 == accounts.vram.ghosts)
-        & (tt.free as u64 == accounts.tt.free)
-        & (tt.live as u64 == accounts.tt.live)
-        & (tt.targets as u64 == accounts.tt.target)
-        & (tt.ghosts as u64 == accounts.tt.ghosts)
-        & (frames as u64 == accounts.frames.free)
+    is_same(account_of(parts.vram.lengths()), accounts.vram)
+        & is_same(account_of(parts.tt.lengths()), accounts.tt)
+        & (u64::from(parts.pool.free()) == accounts.frames.free)
 }

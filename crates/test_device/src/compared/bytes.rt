@@ -31,17 +31,17 @@ pub fn compare_stores(parts: &Parts, sizes: Sizes, stores: &PlainStores) -> Resu
     for n in 0..sizes.vram {
         let bytes = parts.stores.vram.part(PAGE * n as u64, PAGE);
         let page = StorePage::Vram(n);
-        found = found.and(compare_page(stores, page, bytes, "other bytes on page of VRAM", n));
+        found = found.and(compare_page(stores, page, bytes, "other bytes on page of VRAM ", n));
     }
     for n in 0..sizes.frames {
         let bytes = parts.stores.frames.part(PAGE * n as u64, PAGE);
         let page = StorePage::Frame(n);
-        found = found.and(compare_page(stores, page, bytes, "other bytes in frame", n));
+        found = found.and(compare_page(stores, page, bytes, "other bytes in frame ", n));
     }
     for n in 0..sizes.swap {
         let bytes = parts.swap.page(n);
         let page = StorePage::Slot(n);
-        found = found.and(compare_page(stores, page, bytes, "other bytes in slot", n));
+        found = found.and(compare_page(stores, page, bytes, "other bytes in slot ", n));
     }
     found
 }

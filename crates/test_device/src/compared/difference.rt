@@ -1,11 +1,11 @@
 use script_text::ScriptFault;
-use std::io::Error;
+use std::io;
 use ttm_base::NoMemory;
 
 /// What the device on its parts, or the parts that are given the entries, do or have otherwise than the plain device.
 #[derive(Clone, Copy)]
 pub struct Difference {
-    /// What differs, in words.
+    /// What differs, in words. If it has a number, these end with a space.
     pub what: &'static str,
     /// The number of what differs, if it has one.
     pub number: Option<u64>,
@@ -31,15 +31,17 @@ impl From<ScriptFault> for Stop {
     }
 }
 
-impl From<Error> for Stop {
-    fn from(_: Error) -> Stop {
-        Stop::NoOutput
-    }
-}
-
 impl From<NoMemory> for Stop {
     fn from(_: NoMemory) -> Stop {
         Stop::NoMemory
+    }
+}
+
+/// Is `Ok`, with whether there was a turn, only if what was to be told of it is printed.
+pub fn printed(told: io::Result<()>, is_taken: bool) -> Result<bool, Stop> {
+    match told {
+        Ok(()) => Ok(is_taken),
+        Err(_) => Err(Stop::NoOutput),
     }
 }
 
@@ -62,7 +64,7 @@ pub fn agree_all(facts: &[(bool, &'static str)]) -> Result<(), Stop> {
     Ok(())
 }
 
-/// Is `Ok` only if what both tell of the part numbered `number` is the same, else names `what` differs.
+/// Is `Ok` only if what both tell of the part numbered `number` is the same, else names `what` differs, with a space at the end.
 pub fn agree_on(is_same: bool, what: &'static str, number: u64) -> Result<(), Stop> {
     if is_same {
         Ok(())

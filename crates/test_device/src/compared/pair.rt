@@ -5,7 +5,7 @@ use super::bytes::compare_stores;
 use super::difference::{Stop, agree, agree_all, agree_on};
 use super::parts::compare_parts;
 use super::replay::Replay;
-use super::report::{line_that_differs, report_of};
+use super::report::{compare_texts, report_of};
 use device_core::Device;
 use io_edge::MemSink;
 use journal_model::{Entry, Kind};
@@ -48,6 +48,12 @@ fn last_done(journal: &[Entry], ctx: u32) -> u64 {
 }
 
 impl Asked {
+    /// Makes a device that runs the script of a text, and hasn't begun.
+    fn of(alloc: Global, text: &[u8]) -> Result<Asked, Stop> {
+        let device = Device::new(alloc, read_script(alloc, text)?)?;
+        Ok(Asked { device, refused: 0 })
+    }
+
     /// Takes a turn of `who`.
     fn step(&mut self, who: Actor) -> Result<Turn, NoMemory> {
         match self.device.step(who) {
@@ -80,12 +86,12 @@ impl Pair {
     pub fn of(alloc: Global, text: &[u8], when: When) -> Result<Pair, Stop>
         ensures { IfOk result (λ pair. AreInStep pair.replay.plain pair.replay.rooms) }
     {
-        let device = Device::new(alloc, read_script(alloc, text)?)?;
+        let asked = Asked::of(alloc, text)?;
         let replay = Replay::of(alloc, text)?;
         Ok(Pair {
             alloc,
             when,
-            asked: Asked { device, refused: 0 },
+            asked,
             replay,
             turns: 0,
         })
@@ -98,7 +104,7 @@ impl Pair {
         let mut found = Ok(());
         for ctx in 0..=device.script().sizes.engines {
             let same = device.done(ctx) == last_done(journal, ctx);
-            found = found.and(agree_on(same, "another last job of context", u64::from(ctx)));
+            found = found.and(agree_on(same, "another last job of context ", u64::from(ctx)));
         }
         found
     }
@@ -136,11 +142,15 @@ impl Pair {
         ensures { OnOk result (AreInStep self.new.replay.plain self.new.replay.rooms) }
     {
         self.turns = self.turns.saturating_add(1);
-        let turn = self.replay.step(who)?;
-        let here = self.asked.step(who)?;
-        let is_made = matches!(&turn, Turn::Made(_));
-        agree(here == turn, "another answer").and(self.compare_turn(is_made))?;
-        Ok(turn)
+        match (self.replay.step(who), self.asked.step(who)) {
+            (Ok(turn), Ok(here)) => {
+                let is_made = matches!(&turn, Turn::Made(_));
+                agree(here == turn, "another answer")
+                    .and(self.compare_turn(is_made))
+                    .and(Ok(turn))
+            }
+            _ => Err(Stop::NoMemory),
+        }
     }
 
     /// Takes a turn in the simulator's order on both devices, if some actor has an entry. Returns whether one has.
@@ -152,13 +162,17 @@ impl Pair {
         requires { AreInStep self.old.replay.plain self.old.replay.rooms }
         ensures { OnOk result (AreInStep self.new.replay.plain self.new.replay.rooms) }
     {
-        let who = self.replay.step_next()?;
-        let here = self.asked.step_next()?;
-        agree(here == who, "another actor")?;
-        let is_taken = who.is_some();
-        self.turns = self.turns.saturating_add(u64::from(is_taken));
-        self.compare_turn(true)?;
-        Ok(is_taken)
+        match (self.replay.step_next(), self.asked.step_next()) {
+            (Ok(who), Ok(here)) => {
+                let is_same = here == who;
+                let is_taken = who.is_some();
+                self.turns = self.turns.saturating_add(u64::from(is_same & is_taken));
+                agree(is_same, "another actor")
+                    .and(self.compare_turn(true))
+                    .and(Ok(is_taken))
+            }
+            _ => Err(Stop::NoMemory),
+        }
     }
 
     /// Writes the report of the device on its parts.
@@ -174,12 +188,7 @@ impl Pair {
         let accounts = accounts_of(self.alloc, plain.script(), plain.state())?;
         let wanted = report_of(self.alloc, plain.script(), plain.journal(), &accounts)?;
         let here = self.report_on_parts()?;
-        let line = line_that_differs(here.bytes(), wanted.bytes());
-        agree_on(
-            line.is_none(),
-            "another report from line",
-            line.unwrap_or(0),
-        )
+        compare_texts(here.bytes(), wanted.bytes())
     }
 
     /// Compares what is to be the same after all turns: all entries, results, accounts and bytes, and what the parts tell.

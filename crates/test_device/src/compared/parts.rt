@@ -6,11 +6,12 @@ ghost use Rattle.test_device.specs.Steps.{AreInStep};
 use super::accounts::{are_kept, are_same_accounts};
 use super::difference::{Stop, agree_all, agree_on};
 use super::replay::Replay;
+use aperture_table::Aperture;
 use bo_table::BoTable;
 use copy_packet::ProbeBytes;
 use journal_model::{Course, Script, State};
+use lru_bulk::Lru;
 use plain_accounts::accounts_of;
-use room_state::Rooms;
 use rules_holds::{free_frame, free_slot, waited_before_read, waited_before_write};
 use rules_state::{declared_pages, list_number, live_in};
 use rules_stores::StorePage;
@@ -23,31 +24,21 @@ const PAGE: u32 = 4096;
 /// The number of bytes that are shown at once.
 const PIECE: u32 = 256;
 
-/// Compares `PIECE` bytes of a live buffer, of which there are `piece` times as many before.
-fn compare_piece(replay: &Replay, b: BufId, piece: u32, seen: &mut ProbeBytes) -> Result<(), Stop>
-    requires { IsThere (state_behind replay.now.rooms) b }
-{
-    let at = piece.saturating_mul(PIECE);
-    replay.rooms.shown(b, at, PIECE, seen);
-    let place = StorePage::of(&replay.plain.state().core, b, at / PAGE);
-    let mut wanted = [0; PIECE as usize];
-    replay.plain.stores().read(place, at % PAGE, &mut wanted);
-    agree_on(
-        seen.bytes() == wanted.as_slice(),
-        "other bytes on a page of buffer",
-        u64::from(b.0),
-    )
-}
-
 /// Compares the bytes of each page of a live buffer.
 fn compare_pages(replay: &Replay, b: BufId, seen: &mut ProbeBytes) -> Result<(), Stop>
     requires { IsThere (state_behind replay.now.rooms) b }
 {
-    let mut found = Ok(());
-    for piece in 0..declared_pages(replay.plain.script(), b).saturating_mul(PAGE / PIECE) {
-        found = found.and(compare_piece(replay, b, piece, seen));
+    let plain = &replay.plain;
+    let mut wanted = [0; PIECE as usize];
+    let mut is_same = true;
+    for piece in 0..declared_pages(plain.script(), b).saturating_mul(PAGE / PIECE) {
+        let at = piece.saturating_mul(PIECE);
+        replay.rooms.shown(b, at, PIECE, seen);
+        let place = StorePage::of(&plain.state().core, b, at / PAGE);
+        plain.stores().read(place, at % PAGE, &mut wanted);
+        is_same &= seen.bytes() == wanted.as_slice();
     }
-    found
+    agree_on(is_same, "other bytes on a page of buffer ", u64::from(b.0))
 }
 
 /// Returns whether the table has a live buffer of that number.
@@ -65,12 +56,12 @@ fn compare_buffer(replay: &Replay, b: BufId, seen: &mut ProbeBytes) -> Result<()
     let core = &replay.plain.state().core;
     let alive = is_alive(rooms.bos(), b);
     let Some(buffer) = live_in(core.buffers.items(), b) else {
-        return agree_on(!alive, "another life of buffer", number);
+        return agree_on(!alive, "another life of buffer ", number);
     };
     let same_write = rooms.need(b, Usage::Write) == waited_before_write(core, buffer);
     let same_read = rooms.need(b, Usage::Read) == waited_before_read(core, buffer);
-    agree_on(alive, "another life of buffer", number)
-        .and(agree_on(same_write & same_read, "other jobs before buffer", number))
+    agree_on(alive, "another life of buffer ", number)
+        .and(agree_on(same_write & same_read, "other jobs before buffer ", number))
         .and(compare_pages(replay, b, seen))
 }
 
@@ -103,21 +94,20 @@ fn frame_at(state: &State, page: u32) -> Option<u32> {
     }
 }
 
-/// Compares the frame that each page of TT stands for.
-fn compare_aperture(replay: &Replay) -> Result<(), Stop> {
-    let state = replay.plain.state();
-    let aperture = replay.rooms.aperture();
+/// Compares the frame that each of `pages` pages of TT stands for.
+fn compare_aperture(aperture: &Aperture, pages: u32, state: &State) -> Result<(), Stop>
+    requires { pages ≤ length aperture.now }
+{
     let mut found = Ok(());
-    for page in 0..replay.rooms.script().sizes.tt {
+    for page in 0..pages {
         let same = aperture.get(page) == frame_at(state, page);
-        found = found.and(agree_on(same, "another frame at page of TT", u64::from(page)));
+        found = found.and(agree_on(same, "another frame at page of TT ", u64::from(page)));
     }
     found
 }
 
-/// Returns whether a list of the parts has these buffers in this order.
-fn is_same_list(rooms: &Rooms, first: Option<BufId>, wanted: &[BufId]) -> bool {
-    let lru = rooms.lru();
+/// Returns whether the list from `first` on has these buffers in this order.
+fn is_same_list(lru: &Lru, first: Option<BufId>, wanted: &[BufId]) -> bool {
     let mut listed = first;
     let mut same = true;
     for b in wanted {
@@ -132,32 +122,26 @@ fn is_same_list(rooms: &Rooms, first: Option<BufId>, wanted: &[BufId]) -> bool {
 }
 
 /// Compares the list of the number `number`: those of each memory type are four, by their priorities.
-fn compare_list(replay: &Replay, number: u32) -> Result<(), Stop> {
+fn compare_list(lru: &Lru, state: &State, number: u32) -> Result<(), Stop> {
     let mem = match number / 4 {
         0 => Mem::System,
         1 => Mem::Tt,
         _ => Mem::Vram,
     };
     let prio = number % 4;
-    let first = replay.rooms.lru().first(mem, prio);
-    let same = match replay
-        .plain
-        .state()
-        .lists
-        .items()
-        .get(list_number(mem, prio))
-    {
-        Some(list) => is_same_list(&replay.rooms, first, list.items()),
+    let first = lru.first(mem, prio);
+    let same = match state.lists.items().get(list_number(mem, prio)) {
+        Some(list) => is_same_list(lru, first, list.items()),
         None => first.is_none(),
     };
-    agree_on(same, "another order of list", u64::from(number))
+    agree_on(same, "another order of list ", u64::from(number))
 }
 
 /// Compares the twelve lists.
-fn compare_lists(replay: &Replay) -> Result<(), Stop> {
+fn compare_lists(lru: &Lru, state: &State) -> Result<(), Stop> {
     let mut found = Ok(());
     for number in 0..12 {
-        found = found.and(compare_list(replay, number));
+        found = found.and(compare_list(lru, state, number));
     }
     found
 }
@@ -172,29 +156,16 @@ fn head_of(state: &State, ctx: u32) -> Option<JobId> {
     None
 }
 
-/// Compares the next and the first job of the context `ctx`.
-fn compare_jobs_of(replay: &Replay, ctx: u32) -> Result<(), Stop>
-    requires { ctx ≤ replay.now.rooms.script.sizes.engines }
-{
+/// Compares the next and the first job of each context.
+fn compare_jobs(replay: &Replay) -> Result<(), Stop> {
     let state = replay.plain.state();
     let rooms = &replay.rooms;
-    let last = match state.last_jobs.items().get(ctx as usize) {
-        Some(last) => *last,
-        None => 0,
-    };
-    let same_next = last.checked_add(1) == Some(rooms.next_job(ctx));
-    let same_head = head_of(state, ctx) == rooms.head(ctx);
-    agree_on(
-        same_next & same_head,
-        "other jobs of context",
-        u64::from(ctx),
-    )
-}
-
-fn compare_jobs(replay: &Replay) -> Result<(), Stop> {
     let mut found = Ok(());
-    for ctx in 0..=replay.rooms.script().sizes.engines {
-        found = found.and(compare_jobs_of(replay, ctx));
+    for ctx in 0..=rooms.script().sizes.engines {
+        let last = state.last_jobs.items().get(ctx as usize).copied();
+        let next = last.unwrap_or(0).checked_add(1);
+        let same = (next == Some(rooms.next_job(ctx))) & (head_of(state, ctx) == rooms.head(ctx));
+        found = found.and(agree_on(same, "other jobs of context ", u64::from(ctx)));
     }
     found
 }
@@ -220,40 +191,45 @@ fn compare_numbers(replay: &Replay) -> Result<(), Stop> {
     ])
 }
 
-/// Returns how many commands the thread has answered whose course is at `at`, if there is one.
-fn answered_at(courses: &[Course], at: usize) -> Option<u32> {
-    match courses.get(at) {
-        Some(course) => Some(course.answered),
-        None => None,
-    }
-}
-
 /// Compares how many commands each thread has answered.
-fn compare_answered(replay: &Replay) -> Result<(), Stop> {
-    let kept = replay.rooms.parts().courses.items();
-    let wanted = replay.plain.state().courses.items();
+fn compare_answered(kept: &[Course], wanted: &[Course]) -> Result<(), Stop> {
     let mut found = Ok(());
     for i in 0..wanted.len() {
-        let same = answered_at(kept, i) == answered_at(wanted, i);
-        found = found.and(agree_on(same, "another place of thread from 0", i as u64));
+        let same = match kept.get(i) {
+            Some(course) => course.answered == wanted[i].answered,
+            None => false,
+        };
+        found = found.and(agree_on(same, "another place of thread from 0 ", i as u64));
     }
     found
 }
 
-/// Compares the lowest free frame and slot, and the counts of pages, frames and slots that are held or free.
+/// Compares the lowest free frame and slot.
 fn compare_free(replay: &Replay, alloc: Global) -> Result<(), Stop> {
     let script = replay.plain.script();
-    let state = replay.plain.state();
+    let core = &replay.plain.state().core;
+    match (
+        free_frame(alloc, script, core),
+        free_slot(alloc, script, core),
+    ) {
+        (Ok(frame), Ok(slot)) => agree_all(&[
+            (
+                replay.rooms.free_frame() == frame,
+                "another lowest free frame",
+            ),
+            (replay.rooms.free_slot() == slot, "another lowest free slot"),
+        ]),
+        _ => Err(Stop::NoMemory),
+    }
+}
+
+/// Compares the counts of pages, frames and slots that are held or free.
+fn compare_accounts(replay: &Replay, alloc: Global) -> Result<(), Stop> {
+    let wanted = accounts_of(alloc, replay.plain.script(), replay.plain.state())?;
     let rooms = &replay.rooms;
-    let frame = free_frame(alloc, script, &state.core)?;
-    let slot = free_slot(alloc, script, &state.core)?;
-    let wanted = accounts_of(alloc, script, state)?;
     let held = room_accounts::accounts_of(rooms.parts(), rooms.script(), rooms.journal());
-    let same_held = are_same_accounts(&held, &wanted);
     agree_all(&[
-        (rooms.free_frame() == frame, "another lowest free frame"),
-        (rooms.free_slot() == slot, "another lowest free slot"),
-        (same_held, "other accounts"),
+        (are_same_accounts(&held, &wanted), "other accounts"),
         (
             are_kept(rooms.parts(), &wanted),
             "other accounts that are kept",
@@ -265,11 +241,15 @@ fn compare_free(replay: &Replay, alloc: Global) -> Result<(), Stop> {
 pub fn compare_parts(replay: &Replay, alloc: Global) -> Result<(), Stop>
     requires { AreInStep replay.now.plain replay.now.rooms }
 {
+    let rooms = &replay.rooms;
+    let state = replay.plain.state();
+    let pages = rooms.script().sizes.tt;
     compare_numbers(replay)
-        .and(compare_answered(replay))
+        .and(compare_answered(rooms.parts().courses.items(), state.courses.items()))
         .and(compare_jobs(replay))
-        .and(compare_lists(replay))
-        .and(compare_aperture(replay))
+        .and(compare_lists(rooms.lru(), state))
+        .and(compare_aperture(rooms.aperture(), pages, state))
         .and(compare_free(replay, alloc))
+        .and(compare_accounts(replay, alloc))
         .and(compare_buffers(replay, alloc))
 }

@@ -66,25 +66,14 @@ impl Replay {
         if self.plain.over() {
             return Ok(());
         }
-        match next_entry(self.alloc, &self.plain, who)? {
-            Ok(entry) => self.rooms.append(entry),
-            Err(_) => Ok(()),
+        match next_entry(self.alloc, &self.plain, who) {
+            Ok(Ok(entry)) => self.rooms.append(entry),
+            Ok(Err(_)) => Ok(()),
+            Err(NoMemory) => Err(NoMemory),
         }
     }
 
-    /// Gives the parts the entry that `who` makes next, once more where memory was lacking.
-    fn follow(&mut self, who: Actor) -> Result<(), NoMemory>
-        requires { AreInStep self.old.plain self.old.rooms }
-        ensures plain { self.new.plain ≡ self.old.plain }
-        ensures given { OnOk result (AreInStep (after_turn self.old.plain who) self.new.rooms) }
-    {
-        match self.give(who) {
-            Ok(()) => Ok(()),
-            Err(NoMemory) => self.give(who),
-        }
-    }
-
-    /// Takes a turn of `who`, which the parts take too. Where memory was lacking the device is asked once more.
+    /// Takes a turn of `who`, which the parts take too. Where memory was lacking both are asked once more.
     ///
     /// # Errors
     ///
@@ -93,7 +82,9 @@ impl Replay {
         requires { AreInStep self.old.plain self.old.rooms }
         ensures { OnOk result (AreInStep self.new.plain self.new.rooms) }
     {
-        self.follow(who)?;
+        if self.give(who).is_err() {
+            self.give(who)?;
+        }
         match self.plain.step(who) {
             Ok(turn) => Ok(turn),
             Err(NoMemory) => self.plain.step(who),

@@ -1,3 +1,4 @@
+use super::difference::{Stop, agree_on};
 use io_edge::MemSink;
 use journal_model::{Entry, Script};
 use page_accounts::Accounts;
@@ -20,8 +21,8 @@ pub fn report_of(
     journal: &[Entry],
     accounts: &Accounts,
 ) -> Result<MemSink, NoMemory> {
-    let mut line = Line::new(alloc);
     let mut sink = MemSink::new(alloc, ROOM, ROOM, Vec::new(alloc))?;
+    let mut line = Line::new(alloc);
     let entries = write_journal(&mut line, script, journal, &mut sink);
     let outcome = write_outcome(&mut line, script, journal, accounts, &mut sink);
     match entries.and(outcome) {
@@ -30,18 +31,14 @@ pub fn report_of(
     }
 }
 
-/// Returns the number of the first line in which two texts differ, from 1.
-pub fn line_that_differs(one: &[u8], other: &[u8]) -> Option<u64> {
+/// Compares two texts, and names the first line in which they differ, from 1.
+pub fn compare_texts(one: &[u8], other: &[u8]) -> Result<(), Stop> {
     let mut line = 1u64;
     for at in 0..one.len().min(other.len()) {
         if one[at] != other[at] {
-            return Some(line);
+            return agree_on(false, "another report from line ", line);
         }
         line = line.saturating_add(u64::from(one[at] == b'\n'));
     }
-    if one.len() == other.len() {
-        None
-    } else {
-        Some(line)
-    }
+    agree_on(one.len() == other.len(), "another report from line ", line)
 }

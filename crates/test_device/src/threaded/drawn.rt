@@ -1,4 +1,6 @@
-use crate::program::{Outcome, outcome_of, print_outcome};
+use crate::pieces::print_all;
+use crate::program;
+use crate::program::{Outcome, outcome_of};
 use crate::threaded::watch::Watch;
 use generated_load::generated;
 use sha2::{Digest, Sha256};
@@ -48,36 +50,54 @@ fn print_results(
     outcome: &Outcome,
 ) -> io::Result<()> {
     watch.print(rt, case)?;
-    let status = outcome.status;
     let report = str::from_utf8(outcome.output.bytes()).unwrap_or("");
     let (results, refused, reads) = counts_of(results_of(report));
     let digest = hex::encode(alloc, reads.finalize())?;
-    println!(rt; "status {status}, {results} results, {refused} refused, reads {digest}")
+    print_all(
+        rt,
+        &[
+            ("status ", Some(u64::from(outcome.status))),
+            (", ", Some(results)),
+            (" results, ", Some(refused)),
+            (" refused, reads ", None),
+            (digest.as_str(), None),
+            ("\n", None),
+        ],
+    )
 }
 
-/// Prints what a run on threads came to, and puts its report behind its script.
-fn print_run(
+/// Makes of a case the one in which `check` judges its text.
+fn ask_for_verdict(alloc: Global, case: &mut Case) -> io::Result<()> {
+    case.watched = None;
+    case.words.clear();
+    case.words.push(String::from_str(alloc, "check")?)?;
+    case.name.clear();
+    case.name.push_str("check")?;
+    Ok(())
+}
+
+/// Prints what a run on threads came to, puts its report behind its script, and makes of the case the one that has both checked.
+fn keep_run(
+    rt: &impl Print,
+    alloc: Global,
+    case: &mut Case,
+    watch: &Watch,
+    outcome: &Outcome,
+) -> io::Result<()> {
+    print_results(rt, alloc, case, watch, outcome)?;
+    case.text.extend_from_slice(outcome.output.bytes())?;
+    ask_for_verdict(alloc, case)
+}
+
+/// Runs a drawn script on threads, after which the case is the one that has its report checked.
+fn run_drawn(
     rt: &(impl Threads + Wait + Sync + Print),
     alloc: Global,
     case: &mut Case,
 ) -> io::Result<()> {
     let watch = Watch::new(case.watched);
     let outcome = outcome_of(rt, alloc, case, CHUNK, &watch)?;
-    print_results(rt, alloc, case, &watch, &outcome)?;
-    case.text.extend_from_slice(outcome.output.bytes())?;
-    Ok(())
-}
-
-/// Prints what is said of a script with a report behind it.
-fn print_verdict(
-    rt: &(impl Threads + Wait + Sync + Print),
-    alloc: Global,
-    case: &mut Case,
-) -> io::Result<()> {
-    case.words.clear();
-    case.words.push(String::from_str(alloc, "check")?)?;
-    let told = outcome_of(rt, alloc, case, CHUNK, &Watch::new(None))?;
-    print_outcome(rt, "check", &told)
+    keep_run(rt, alloc, case, &watch, &outcome)
 }
 
 /// Prints the digest of a case's text.
@@ -99,6 +119,6 @@ pub fn run(
     if case.words.is_empty() {
         return Ok(());
     }
-    print_run(rt, alloc, case)?;
-    print_verdict(rt, alloc, case)
+    run_drawn(rt, alloc, case)?;
+    program::run(rt, alloc, case)
 }

@@ -3,6 +3,7 @@ ghost use Rattle.std.specs.Prelude.{◌≡◌, ◌<◌, ◌≤◌, [], Some, len
 ghost use Rattle.std.specs.Io.KnownBytes.{append_known};
 ghost use Rattle.io_edge.specs.Faults.{faults_after};
 
+use crate::pieces::{print_all, word_for};
 use io_edge::{Failed, MemSink, Sink};
 use std::io;
 use std::sync::atomic::Ordering::SeqCst;
@@ -88,7 +89,17 @@ impl Watch {
         let is_enough = self.turns.load(SeqCst) >= turns;
         let is_written = self.writes.load(SeqCst) > 0;
         let last = is_enough & is_written & !self.is_late.load(SeqCst);
-        println!(rt; "workers held: {held}, then written, after {turns} turns or more: {last}")
+        print_all(
+            rt,
+            &[
+                ("workers held: ", None),
+                word_for(held),
+                (", then written, after ", Some(turns)),
+                (" turns or more: ", None),
+                word_for(last),
+                ("\n", None),
+            ],
+        )
     }
 }
 

@@ -4,6 +4,7 @@ ghost use Rattle.turn_lock.specs.Turning.{IsFree, IsOnward};
 
 use super::counter::Counter;
 use super::watch::Watch;
+use crate::pieces::{print_all, word_for};
 use std::alloc::Global;
 use std::io;
 use std::sync::Wait;
@@ -70,8 +71,24 @@ fn print_fences(rt: &(impl Wait + Print), alloc: Global, name: &str) -> io::Resu
     let (others, _) = raised_to(&turns, &mut other, 3);
     turns.join(&mut pass, other);
     let entries = turns.close(rt, pass).count();
-    println!(rt;
-        "case {name}\nraised to 1, 2, 3, 4: {first}, {second}, {third}, {fourth}, seen by another pass to 3: {others}, {entries} entries"
+    print_all(
+        rt,
+        &[
+            ("case ", None),
+            (name, None),
+            ("\nraised to 1, 2, 3, 4: ", None),
+            word_for(first),
+            (", ", None),
+            word_for(second),
+            (", ", None),
+            word_for(third),
+            (", ", None),
+            word_for(fourth),
+            (", seen by another pass to 3: ", None),
+            word_for(others),
+            (", ", Some(entries)),
+            (" entries\n", None),
+        ],
     )
 }
 
@@ -84,8 +101,20 @@ fn print_one_worker(rt: &(impl Wait + Print), alloc: Global) -> io::Result<()> {
     let (tenth, eleventh) = raised_to(&turns, &mut pass, 10);
     let counter = turns.close(rt, pass);
     let (entries, jobs) = (counter.count(), counter.done(0));
-    println!(rt;
-        "{contexts} context, over: {is_over}, raised to 10: {tenth}, to 11: {eleventh}, {entries} entries, {jobs} jobs"
+    print_all(
+        rt,
+        &[
+            ("", Some(contexts as u64)),
+            (" context, over: ", None),
+            word_for(is_over),
+            (", raised to 10: ", None),
+            word_for(tenth),
+            (", to 11: ", None),
+            word_for(eleventh),
+            (", ", Some(entries)),
+            (" entries, ", Some(jobs)),
+            (" jobs\n", None),
+        ],
     )
 }
 
@@ -113,5 +142,17 @@ pub fn run(
     let entries = turns.close(rt, pass).count();
     let name = case.name.as_str();
     let held = watch.has_held();
-    println!(rt; "case {name}, over: {is_over}, {entries} entries, workers held: {held}")
+    print_all(
+        rt,
+        &[
+            ("case ", None),
+            (name, None),
+            (", over: ", None),
+            word_for(is_over),
+            (", ", Some(entries)),
+            (" entries, workers held: ", None),
+            word_for(held),
+            ("\n", None),
+        ],
+    )
 }
