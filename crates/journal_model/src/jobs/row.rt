@@ -6,7 +6,8 @@ ghost use Rattle.journal_model.specs.rules.ApplyJobs.{changed_job};
 ghost use Rattle.journal_model.specs.code.JobRuns.{is_in, behind, fits};
 ghost use Rattle.journal_model.specs.code.Jobs.{IsRow};
 
-use crate::job_ids::{JobRun, joined};
+use crate::job_ids::JobRun;
+use crate::runs::Run;
 use crate::state::Job;
 use ttm_base::JobId;
 
@@ -38,7 +39,7 @@ fn row_with(row: JobRun, id: JobId) -> JobRun
         first: id.num,
         count: 1,
     };
-    match joined(row, alone) {
+    match row.joined(alone) {
         Some(both) => both,
         None => alone,
     }
