@@ -78,14 +78,7 @@ held_right x l k r p h e =
 
 -- ---- the longest hole
 
-pub longest_reaches : (start : ℕ) (from to : Span) (ys : List Span) → find (starts_at start) ys ≡ Some from → length_of to ≤ longest (replaced start to ys)
-longest_reaches start from to [] e = absurd cc
-longest_reaches start from to (y ∷ ys) e = elim (cases_Bool (starts_at start y)) [
-  | inl t ↦ rw t (omega arith)
-  | inr n ↦ let found = rw n at e in rw n (omega (arith, longest_reaches start from to ys found))
-]
-
-pub longest_replaced : (from to : Span) (ys : List Span) → IsRising ys → find (starts_at from.start) ys ≡ Some from → max (longest ys) (length_of to) ≡ max (length_of from) (longest (replaced from.start to ys))
+longest_replaced : (from to : Span) (ys : List Span) → IsRising ys → find (starts_at from.start) ys ≡ Some from → max (longest ys) (length_of to) ≡ max (length_of from) (longest (replaced from.start to ys))
 longest_replaced from to [] h e = absurd cc
 longest_replaced from to (y ∷ ys) h e = elim (cases_Bool (starts_at from.start y)) [
   | inl t ↦
@@ -98,6 +91,10 @@ longest_replaced from to (y ∷ ys) h e = elim (cases_Bool (starts_at from.start
       rw t (omega arith)
   | inr n ↦ let found = rw n at e in rw n (omega (arith, longest_replaced from to ys h.2 found))
 ]
+
+-- it stays where neither hole is as long
+pub longest_kept : (longer : ℕ) (from to : Span) (ys : List Span) → IsRising ys → find (starts_at from.start) ys ≡ Some from → length_of from ≤ longer → length_of to ≤ longer → longer < longest ys → longest ys ≡ longest (replaced from.start to ys)
+longest_kept longer from to ys h e a b c = omega (arith, longest_replaced from to ys h e)
 
 -- ---- a node that has the hole on a side
 

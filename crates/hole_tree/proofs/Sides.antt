@@ -1,5 +1,5 @@
 -- What holds of the sides of a node that was taken apart.
-use Rattle.std.proofs.Common.{◌≡◌, ℕ, ◌+◌, max, true, false, ◌∷◌, ◌++◌, Some, length, refl, sym, ap, ◌∙◌, subst, arith, length-append}
+use Rattle.std.proofs.Common.{◌≡◌, ℕ, ◌+◌, true, false, ◌∷◌, ◌++◌, Some, length, refl, sym, ap, ◌∙◌, subst, arith, length-append}
 use Rattle.std.specs.List.{find}
 use Rattle.ttm_base.specs.declared.Span.{Span}
 use Rattle.hole_tree.specs.declared.order.Order.{Order}

@@ -172,7 +172,8 @@ impl Holes {
         ensures spare { self.new.spare ≡ self.old.spare }
     {
         let (from, to) = (Hole::of(from), Hole::of(to));
-        self.by_start.resize(&from, &to);
+        let longer = from.pages().max(to.pages());
+        self.by_start.resize(&from, &to, longer);
         let mut node = self.by_length.take(&from).node;
         node.hole = to;
         self.by_length.insert(node);

@@ -293,10 +293,12 @@ impl<S: Sort> Tree<S> {
 }
 
 impl<S: Longest> Tree<S> {
-    /// Puts another hole in the place of one.
-    pub(crate) fn resize(&mut self, from: &Hole, to: &Hole)
+    /// Puts another hole in the place of one. Neither is longer than `longer` pages.
+    pub(crate) fn resize(&mut self, from: &Hole, to: &Hole, longer: u32)
         requires rising { IsRising self.old.spans }
         requires held { find (starts_at from.now.start) self.old.spans ≡ Some from.now }
+        requires longer_from { length_of from.now ≤ longer }
+        requires longer_to { length_of to.now ≤ longer }
         ensures spans { self.new.spans ≡ replaced from.now.start to.now self.old.spans }
         ensures height { self.new.height ≡ self.old.height }
     {
@@ -305,34 +307,20 @@ impl<S: Longest> Tree<S> {
         };
         let node = &mut **node;
         if from.start() < node.hole.start() {
-            node.left.resize(from, to);
-            node.of_left = node.left.kept_resized(node.of_left.longest(), *from, *to);
+            node.left.resize(from, to, longer);
+            if node.of_left.longest() <= longer {
+                node.of_left = node.left.kept();
+            }
             return;
         }
         if node.hole.start() < from.start() {
-            node.right.resize(from, to);
-            node.of_right = node.right.kept_resized(node.of_right.longest(), *from, *to);
+            node.right.resize(from, to, longer);
+            if node.of_right.longest() <= longer {
+                node.of_right = node.right.kept();
+            }
             return;
         }
         node.hole = *to;
-    }
-
-    /// What is kept of it where its longest hole had `was` pages until a hole was put in the place of another.
-    fn kept_resized(&self, was: u32, from: Hole, to: Hole) -> S
-        requires held { length_of to ≤ longest self.now.spans }
-        requires others { max was (length_of to) ≡ max (length_of from) (longest self.now.spans) }
-        ensures { result ≡ S.keeps (longest self.now.spans) }
-    {
-        let pages = to.pages();
-        if pages >= was {
-            return S::of(pages);
-        }
-        let was = S::of(was);
-        if was.may_lose(from.pages()) {
-            self.kept()
-        } else {
-            was
-        }
     }
 }
 

@@ -1,13 +1,12 @@
-use Rattle.std.proofs.Common.{◌≡◌, ℕ, ◌<◌, ◌≤◌, ◌++◌, ◌∷◌, length, refl, ap, sym, ◌∙◌, subst, arith, rules}
-use Rattle.ttm_base.specs.Reach.{length_of}
+use Rattle.std.proofs.Common.{◌≡◌, ℕ, ◌<◌, ◌++◌, ◌∷◌, length, refl, ap, sym, ◌∙◌, subst, arith, rules}
 use Rattle.hole_tree.specs.Longest.{longest}
 use Rattle.hole_tree.specs.Sorting.{replaced}
 use Rattle.hole_tree.specs.Trees.{shape_of, IsNode, IsSound, IsTree}
-use Rattle.hole_tree.proofs.Resizing.{IsLeft, IsRight, is_left, is_right, length-replaced, replaced_here, longest_reaches, longest_replaced, sound_left, sound_right}
+use Rattle.hole_tree.proofs.Resizing.{IsLeft, IsRight, is_left, is_right, length-replaced, replaced_here, longest_kept, sound_left, sound_right}
 use Rattle.hole_tree.proofs.Sides.{opened, node_rising}
 use Rattle.hole_tree.proofs.tree.Tree.+resize.Given.{Over}
 use Rattle.hole_tree.proofs.tree.Tree.+resize.Goals as goal
-use Rattle.hole_tree.proofs.tree.Tree.+resize.Goals.{Then-start, Then-start-2}
+use Rattle.hole_tree.proofs.tree.Tree.+resize.Goals.{Then-start, Then-start-2, then-longest-longer, else-longest-longer, then-longest-longer-2, else-longest-longer-2}
 
 left : (g : Over) (t : ℕ) (c : Then-start g t) → IsLeft c.args.self.now c.deref_mut-node.result.now c.args.from.now
 left g t c =
@@ -23,65 +22,61 @@ pub resize-requires : goal.resize-requires
 resize-requires g t c κs within =
     let on = left g t (goal.at.resize-requires g t c).Then-start in
     let fewer : length c.deref_mut-node.result.now.left.spans < length c.args.self.now.spans = on.fewer in
-    (first_of (omega arith, search rules), (search rules, (on.rising, on.found)))
-
-pub kept_resized-node-requires-clause-held : goal.kept_resized-node-requires-clause-held
-kept_resized-node-requires-clause-held g t c =
-    let on = left g t (goal.at.kept_resized-node-requires-clause-held g t c).Then-start in
-    subst (λ ys. length_of c.args.to.now ≤ longest ys) (sym c.resize.ensures.spans) (longest_reaches c.args.from.now.start c.args.from.now c.args.to.now c.deref_mut-node.result.now.left.spans on.found)
-
-pub kept_resized-node-requires-clause-others : goal.kept_resized-node-requires-clause-others
-kept_resized-node-requires-clause-others g t c =
-    let on = left g t (goal.at.kept_resized-node-requires-clause-others g t c).Then-start in
-    let n = c.deref_mut-node.result.now in
-    let sound : IsSound g.S.Side.keeps n = rw c.deref_mut-node.ensures.value (subst (IsTree g.S.Side.keeps) c.in-Full.is c.self.invariant) in
-    let was : c.longest.result ≡ longest n.left.spans = c.longest.ensures _ sound.sides.of_left in
-    rw (was, c.resize.ensures.spans) (longest_replaced c.args.from.now c.args.to.now n.left.spans on.rising on.found)
+    (first_of (omega arith, search rules), (search rules, (on.rising, (on.found, (c.requires.longer_from, c.requires.longer_to)))))
 
 pub invariant_of-self : goal.invariant_of-self
 invariant_of-self g t c =
+    let on = left g t (goal.at.invariant_of-self g t c).Then-start in
     let n = c.deref_mut-node.result.now in
     let sound : IsSound g.S.Side.keeps n = rw c.deref_mut-node.ensures.value (subst (IsTree g.S.Side.keeps) c.in-Full.is c.self.invariant) in
     let count : length c.resize.new.self.spans ≡ length n.left.spans = ap length c.resize.ensures.spans ∙ length-replaced c.args.from.now.start c.args.to.now n.left.spans in
-    sound_left sound c.resize.ensures.height count refl refl c.kept_resized-node.ensures refl
+    elim c.if-longest-longer.branch [
+      | then-longest-longer w ↦ rw w.self-inside-is (sound_left sound c.resize.ensures.height count refl refl w.kept-node.ensures refl)
+      | else-longest-longer w ↦
+          let was : c.longest.result ≡ longest n.left.spans = c.longest.ensures _ sound.sides.of_left in
+          let same : longest n.left.spans ≡ longest (replaced c.args.from.now.start c.args.to.now n.left.spans) = longest_kept c.args.longer c.args.from.now c.args.to.now n.left.spans on.rising on.found c.requires.longer_from c.requires.longer_to (omega (arith, was, w.if-longest-longer.false)) in
+          rw w.self-inside-is (sound_left sound c.resize.ensures.height count refl refl (sound.sides.of_left ∙ ap g.S.Side.keeps (same ∙ sym (ap longest c.resize.ensures.spans))) refl)
+    ]
 
 pub returns-then-start-clause-spans : goal.returns-then-start-clause-spans
 returns-then-start-clause-spans g t c =
     let on = left g t (goal.at.returns-then-start-clause-spans g t c).Then-start in
     let n = c.deref_mut-node.result.now in
-    ap (λ w. w ++ n.hole ∷ n.right.spans) c.resize.ensures.spans ∙ sym (on.spans c.args.to.now)
+    let spans = ap (λ w. w ++ n.hole ∷ n.right.spans) c.resize.ensures.spans ∙ sym (on.spans c.args.to.now) in
+    elim c.if-longest-longer.branch [
+      | then-longest-longer w ↦ rw w.self-inside-is spans
+      | else-longest-longer w ↦ rw w.self-inside-is spans
+    ]
 
 pub resize-requires-then-start-2 : goal.resize-requires-then-start-2
 resize-requires-then-start-2 g t c κs within =
     let on = right g t (goal.at.resize-requires-then-start-2 g t c).Then-start-2 in
     let fewer : length c.deref_mut-node.result.now.right.spans < length c.args.self.now.spans = on.fewer in
-    (first_of (omega arith, search rules), (search rules, (on.rising, on.found)))
-
-pub kept_resized-node-requires-then-start-2-clause-held : goal.kept_resized-node-requires-then-start-2-clause-held
-kept_resized-node-requires-then-start-2-clause-held g t c =
-    let on = right g t (goal.at.kept_resized-node-requires-then-start-2-clause-held g t c).Then-start-2 in
-    subst (λ ys. length_of c.args.to.now ≤ longest ys) (sym c.resize-then-start-2.ensures.spans) (longest_reaches c.args.from.now.start c.args.from.now c.args.to.now c.deref_mut-node.result.now.right.spans on.found)
-
-pub kept_resized-node-requires-then-start-2-clause-others : goal.kept_resized-node-requires-then-start-2-clause-others
-kept_resized-node-requires-then-start-2-clause-others g t c =
-    let on = right g t (goal.at.kept_resized-node-requires-then-start-2-clause-others g t c).Then-start-2 in
-    let n = c.deref_mut-node.result.now in
-    let sound : IsSound g.S.Side.keeps n = rw c.deref_mut-node.ensures.value (subst (IsTree g.S.Side.keeps) c.in-Full.is c.self.invariant) in
-    let was : c.longest-then-start-2.result ≡ longest n.right.spans = c.longest-then-start-2.ensures _ sound.sides.of_right in
-    rw (was, c.resize-then-start-2.ensures.spans) (longest_replaced c.args.from.now c.args.to.now n.right.spans on.rising on.found)
+    (first_of (omega arith, search rules), (search rules, (on.rising, (on.found, (c.requires.longer_from, c.requires.longer_to)))))
 
 pub invariant_of-self-then-start-2 : goal.invariant_of-self-then-start-2
 invariant_of-self-then-start-2 g t c =
+    let on = right g t (goal.at.invariant_of-self-then-start-2 g t c).Then-start-2 in
     let n = c.deref_mut-node.result.now in
     let sound : IsSound g.S.Side.keeps n = rw c.deref_mut-node.ensures.value (subst (IsTree g.S.Side.keeps) c.in-Full.is c.self.invariant) in
     let count : length c.resize-then-start-2.new.self.spans ≡ length n.right.spans = ap length c.resize-then-start-2.ensures.spans ∙ length-replaced c.args.from.now.start c.args.to.now n.right.spans in
-    sound_right sound refl c.resize-then-start-2.ensures.height count refl refl c.kept_resized-node-then-start-2.ensures
+    elim c.if-longest-longer-2.branch [
+      | then-longest-longer-2 w ↦ rw w.self-inside-is (sound_right sound refl c.resize-then-start-2.ensures.height count refl refl w.kept-node-then-longest-longer-2.ensures)
+      | else-longest-longer-2 w ↦
+          let was : c.longest-then-start-2.result ≡ longest n.right.spans = c.longest-then-start-2.ensures _ sound.sides.of_right in
+          let same : longest n.right.spans ≡ longest (replaced c.args.from.now.start c.args.to.now n.right.spans) = longest_kept c.args.longer c.args.from.now c.args.to.now n.right.spans on.rising on.found c.requires.longer_from c.requires.longer_to (omega (arith, was, w.if-longest-longer-2.false)) in
+          rw w.self-inside-is (sound_right sound refl c.resize-then-start-2.ensures.height count refl refl (sound.sides.of_right ∙ ap g.S.Side.keeps (same ∙ sym (ap longest c.resize-then-start-2.ensures.spans))))
+    ]
 
 pub returns-then-start-2-clause-spans : goal.returns-then-start-2-clause-spans
 returns-then-start-2-clause-spans g t c =
     let on = right g t (goal.at.returns-then-start-2-clause-spans g t c).Then-start-2 in
     let n = c.deref_mut-node.result.now in
-    ap (λ w. n.left.spans ++ n.hole ∷ w) c.resize-then-start-2.ensures.spans ∙ sym (on.spans c.args.to.now)
+    let spans = ap (λ w. n.left.spans ++ n.hole ∷ w) c.resize-then-start-2.ensures.spans ∙ sym (on.spans c.args.to.now) in
+    elim c.if-longest-longer-2.branch [
+      | then-longest-longer-2 w ↦ rw w.self-inside-is spans
+      | else-longest-longer-2 w ↦ rw w.self-inside-is spans
+    ]
 
 pub returns-clause-spans : goal.returns-clause-spans
 returns-clause-spans g t c =
