@@ -77,7 +77,7 @@ impl Entries {
     }
 
     /// Returns the number of pages.
-    pub fn len(&self) -> usize
+    pub fn pages(&self) -> usize
         ensures { result ≡ length self.now }
     {
         self.pages as usize

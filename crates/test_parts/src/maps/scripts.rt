@@ -83,7 +83,7 @@ pub fn maps_of(rt: &impl Abort, alloc: Global, lines: &[MapLine]) -> CpuMaps {
 
 /// Returns whether there are two pages, without an entry.
 fn are_two(entries: &Entries) -> bool {
-    entries.len() == 2 && entries.get(0).is_none() && entries.get(1).is_none()
+    entries.pages() == 2 && entries.get(0).is_none() && entries.get(1).is_none()
 }
 
 /// Returns whether the mapping is of this thread and buffer, with two pages.
