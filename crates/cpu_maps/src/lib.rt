@@ -2,7 +2,9 @@
 #![tactic(auto)]
 
 mod area;
+mod entries;
 mod maps;
 
-pub use area::{Area, Entries};
+pub use area::Area;
+pub use entries::Entries;
 pub use maps::CpuMaps;

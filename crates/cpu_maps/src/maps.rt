@@ -11,7 +11,7 @@ use ttm_base::{BufId, ItemList, NoMemory, PagePlace};
 
 /// The CPU mappings of a script, seen as a list: one for each buffer that a thread maps anywhere, in the order of the first
 /// lines that do so. A buffer that is mapped again gets the same mapping, which its unmap has emptied. A change of a mapping
-/// that isn't there changes nothing. Only `new` takes memory: room for each page of each of them.
+/// that isn't there changes nothing. Only `new` takes memory, and for entries it only reserves it (`Entries`).
 pub struct CpuMaps {
     areas: ItemList<Area>,
 }

@@ -1,5 +1,5 @@
 use crate::wanted::ensure;
-use cpu_maps::{Area, CpuMaps};
+use cpu_maps::{Area, CpuMaps, Entries};
 use journal_model::{
     CommandLists, Decl, Decls, Mark, MarkKind, Marks, Name, Script, Sizes, TurnLines,
 };
@@ -81,9 +81,14 @@ pub fn maps_of(rt: &impl Abort, alloc: Global, lines: &[MapLine]) -> CpuMaps {
     CpuMaps::new(alloc, &script).expect(rt, "mappings")
 }
 
+/// Returns whether there are two pages, without an entry.
+fn are_two(entries: &Entries) -> bool {
+    entries.pages() == 2 && entries.get(0).is_none() && entries.get(1).is_none()
+}
+
 /// Returns whether the mapping is of this thread and buffer, with two pages.
 fn is_area(area: &Area, want: &(u32, BufId)) -> bool {
-    (area.thread, area.b) == *want && area.entries.items() == [None, None].as_slice()
+    (area.thread, area.b) == *want && are_two(&area.entries)
 }
 
 /// Asserts that the mappings are of these threads and buffers, with two pages each.
