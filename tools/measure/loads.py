@@ -176,10 +176,10 @@ def regions(size, pages):
             yield from range(base, base + (1 << order), pages)
 
 
-def fragmented(size, pages, rounds):
-    """So many times a buffer of so many pages comes and goes in VRAM by blocks, where SIZE pieces of one page are free"""
+def fragmented(size, pages, version=1):
+    """VRAM by blocks, of which SIZE pieces of one page are free, beside so many pages of TT and frames"""
     width = 64  # of a region, which is filled by single pages; then two buffers take every other page of it
-    script = Script(f"buddy {2 * size}", tt=max(width, pages), frames=max(width, pages))
+    script = Script(f"buddy {2 * size}", tt=max(width, pages), frames=max(width, pages), version=version)
     singles = script.declare(numbered("s", width), 1, "vram")
     for number, base in enumerate(regions(2 * size, width)):
         script.first += each(singles, "new *", "find *")
@@ -187,6 +187,12 @@ def fragmented(size, pages, rounds):
             name = script.declare([f"{letter}{number}"], width // 2, f"vram@{base}-{base + width}")
             script.first += each(half, "free *") + each(name, "new *", "find *")
     script.first += each(numbered("y", 2 * size // width), "free *")
+    return script
+
+
+def coming_and_going(size, pages, rounds):
+    """So many times a buffer of so many pages comes and goes in VRAM by blocks, where SIZE pieces of one page are free"""
+    script = fragmented(size, pages)
     script.declare(["w"], pages, "vram")
     script.threads = [around(["w"], rounds, "new *", "find *", "free *")]
     return script
@@ -195,13 +201,13 @@ def fragmented(size, pages, rounds):
 @load(160)
 def blocks(size):
     """buffers of four pages come and go in VRAM by blocks, where SIZE pieces of one page are free"""
-    return fragmented(size, 4, 300)
+    return coming_and_going(size, 4, 300)
 
 
 @load(64)
 def spans(size):
     """a buffer of SIZE pages comes and goes in VRAM by blocks, where as many pieces of one page are free"""
-    return fragmented(size, size, 3)
+    return coming_and_going(size, size, 3)
 
 
 @load(12)
@@ -333,6 +339,41 @@ def mixed(size):
                 )[draw(8)]
             )
         script.threads.append(commands)
+    return script
+
+
+EIGHT_PLACES = ",".join([*(f"vram@{first}-{first + 1}" for first in range(7)), "vram"])
+
+
+@load(6)
+def operations(size):
+    """a job of SIZE operations on two buffers of 512 pages, each of eight places, of which the second is filled page by page"""
+    script = Script("range 1024", tt=1024, frames=1024, swap=512, version=2)
+    names = script.declare(["a", "b"], 512, EIGHT_PLACES)
+    script.first = each(names, "new *", "find *") + ["swapout b"]
+    script.threads = [["submit 1 " + " ; ".join(f"fill {names[at % 2]} {at} 1 55" for at in range(size))]]
+    return script
+
+
+@load(160)
+def beside_spans(size):
+    """a job on a buffer of SIZE pieces of VRAM, and on one of 512 pages that is filled page by page"""
+    script = fragmented(size, size + 512, version=2)
+    script.declare(["w"], size, EIGHT_PLACES)
+    script.declare(["b"], 512, "sys")
+    script.first += ["new w", "find w", "new b"]
+    script.threads = [["submit 1 fill w 0 1 55 ; fill b 0 1 55"]]
+    return script
+
+
+@load(400)
+def peeks(size):
+    """SIZE peeks of a page by each of fifteen threads, which have it mapped"""
+    script = by_threads(size, "peek * 0 16")
+    script.version = 2
+    script.buffers = [line.replace("want sys busy sys", "place sys") for line in script.buffers]
+    for commands, name in zip(script.threads, numbered("b", 15)):
+        commands.insert(0, f"map {name}")
     return script
 
 
