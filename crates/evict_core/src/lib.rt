@@ -6,4 +6,6 @@ mod keepers;
 mod turns;
 mod victims;
 
-pub use turns::{catch, dry, loose, next_victim, skip};
+pub use turns::{
+    catch, catch_victim, dry, loose, next_victim, note_dry, release_victim, skip, skip_victim,
+};

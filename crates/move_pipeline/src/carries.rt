@@ -16,8 +16,26 @@ use room_state::room_turns::{Rooms, Step, make};
 use state_words::{is_caught, target_to_untake};
 use ttm_base::{Actor, BufId, Mem, Need, NoMemory, Usage};
 
-/// Moves buffer `b` back to SYSTEM, once no job uses it.
-fn unbind(rooms: &mut Rooms, thread: u32, b: BufId) -> Result<Step, NoMemory>
+/// Moves buffer `b`, which `thread` binds, from SYSTEM to the pages of TT that were found for it.
+///
+/// # Errors
+///
+/// Lack of memory; nothing is changed.
+pub fn bind(rooms: &mut Rooms, thread: u32, b: BufId) -> Result<Step, NoMemory>
+    requires { task_of rooms.old.script (state_behind rooms.old) thread ≡ task.Bind b }
+    ensures step { IfOk result (λ step. step ≡ step_of (entry_of rooms.old (actor.Thread thread))) }
+    ensures made { OnOk result (rooms.new ≡ after_step rooms.old (entry_of rooms.old (actor.Thread thread))) }
+    ensures err { OnErr result (rooms.new ≡ rooms.old) }
+{
+    make(rooms, Actor::Thread(thread), Kind::Bind { b })
+}
+
+/// Moves buffer `b`, which `thread` unbinds, back to SYSTEM, once no job uses it; until then, returns the job to wait for.
+///
+/// # Errors
+///
+/// Lack of memory; nothing is changed.
+pub fn unbind(rooms: &mut Rooms, thread: u32, b: BufId) -> Result<Step, NoMemory>
     requires { task_of rooms.old.script (state_behind rooms.old) thread ≡ task.Unbind b }
     ensures step { IfOk result (λ step. step ≡ step_of (entry_of rooms.old (actor.Thread thread))) }
     ensures made { OnOk result (rooms.new ≡ after_step rooms.old (entry_of rooms.old (actor.Thread thread))) }
@@ -49,6 +67,21 @@ fn kind_of_move(rooms: &Rooms, thread: u32, b: BufId, mem: Mem) -> Kind
     }
 }
 
+/// Moves buffer `b`, which `thread` moves by a job, to its target in `mem`: the move engine copies its pages.
+///
+/// # Errors
+///
+/// Lack of memory; nothing is changed.
+pub fn move_to_target(rooms: &mut Rooms, thread: u32, b: BufId, mem: Mem) -> Result<Step, NoMemory>
+    requires { task_of rooms.old.script (state_behind rooms.old) thread ≡ task.Move b mem }
+    ensures step { IfOk result (λ step. step ≡ step_of (entry_of rooms.old (actor.Thread thread))) }
+    ensures made { OnOk result (rooms.new ≡ after_step rooms.old (entry_of rooms.old (actor.Thread thread))) }
+    ensures err { OnErr result (rooms.new ≡ rooms.old) }
+{
+    let kind = kind_of_move(rooms, thread, b, mem);
+    make(rooms, Actor::Thread(thread), kind)
+}
+
 /// Moves a buffer to what was found for it, in the stage Carry: from SYSTEM to TT, back, or by a job of the move engine. It isn't unbound while a
 /// job uses it.
 ///
@@ -63,14 +96,29 @@ pub fn carry(rooms: &mut Rooms, thread: u32) -> Result<Step, NoMemory>
     ensures err { OnErr result (rooms.new ≡ rooms.old) }
 {
     match rooms.task(thread) {
-        Task::Bind(b) => make(rooms, Actor::Thread(thread), Kind::Bind { b }),
+        Task::Bind(b) => bind(rooms, thread, b),
         Task::Unbind(b) => unbind(rooms, thread, b),
-        Task::Move { b, mem } => {
-            let kind = kind_of_move(rooms, thread, b, mem);
-            make(rooms, Actor::Thread(thread), kind)
-        }
+        Task::Move { b, mem } => move_to_target(rooms, thread, b, mem),
         _ => unreachable!(),
     }
+}
+
+/// Gives back the target that a failed search took for buffer `b`, once `thread` has no frame of it to give back.
+///
+/// # Errors
+///
+/// Lack of memory; nothing is changed.
+pub fn release_target(rooms: &mut Rooms, thread: u32, b: BufId) -> Result<Step, NoMemory>
+    requires task { task_of rooms.old.script (state_behind rooms.old) thread ≡ task.GiveBack b }
+    requires untake { is_untake (state_behind rooms.old) (task.GiveBack b) ≡ true }
+    ensures step { IfOk result (λ step. step ≡ step_of (entry_of rooms.old (actor.Thread thread))) }
+    ensures always { IfOk result (λ step. step ≡ answer.Made) }
+    ensures made { OnOk result (rooms.new ≡ after_step rooms.old (entry_of rooms.old (actor.Thread thread))) }
+    ensures err { OnErr result (rooms.new ≡ rooms.old) }
+{
+    let _legal = rooms.journal();
+    let mem = target_to_untake(&rooms.lent(b).targets);
+    make(rooms, Actor::Thread(thread), Kind::Untake { b, mem })
 }
 
 /// Gives back a target that a failed search took, in the stage Fail, where there is one and no Depopulate is due.
@@ -85,10 +133,8 @@ pub fn untake(rooms: &mut Rooms, thread: u32) -> Result<Step, NoMemory>
     ensures made { OnOk result (rooms.new ≡ after_step rooms.old (entry_of rooms.old (actor.Thread thread))) }
     ensures err { OnErr result (rooms.new ≡ rooms.old) }
 {
-    let _legal = rooms.journal();
     let Task::GiveBack(b) = rooms.task(thread) else {
         unreachable!()
     };
-    let mem = target_to_untake(&rooms.lent(b).targets);
-    make(rooms, Actor::Thread(thread), Kind::Untake { b, mem })
+    release_target(rooms, thread, b)
 }

@@ -5,5 +5,5 @@
 mod carries;
 mod search;
 
-pub use carries::{carry, untake};
-pub use search::take_target;
+pub use carries::{bind, carry, move_to_target, release_target, unbind, untake};
+pub use search::{take_pages, take_target};

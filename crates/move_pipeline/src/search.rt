@@ -6,7 +6,7 @@ ghost use Rattle.journal_model.specs.rules.Search.{first_choice};
 ghost use Rattle.journal_model.specs.rules.Tasks.{stage_of, task_of};
 ghost use Rattle.room_state.specs.room_turns.Turns.{state_behind};
 ghost use Rattle.room_state.specs.declared.room_turns.Step.TheVariants as step_words;
-ghost use Rattle.room_state.specs.room_turns.Searching.{finds_choice};
+ghost use Rattle.room_state.specs.room_turns.Searching.{buffer_search_of, finds_choice};
 ghost use Rattle.room_state.specs.room_turns.Turns.{after_step, entry_of, step_of};
 ghost use Rattle.room_state.specs.room_turns.BufferSearches.{list_of, seen};
 ghost use Rattle.move_pipeline.specs.Finds as words;
@@ -79,6 +79,37 @@ fn find(rooms: &mut Rooms, buffer_search: BufferSearch) -> Result<Option<(Mem, S
     found_at(rooms, buffer_search.b, place)
 }
 
+/// Takes the pages that `buffer_search`, the search of `thread`, finds, as the buffer's target. Returns false where no place to try now has a
+/// choice; nothing is changed then.
+///
+/// # Errors
+///
+/// Lack of memory; nothing is changed.
+pub fn take_pages(
+    rooms: &mut Rooms,
+    thread: u32,
+    buffer_search: BufferSearch,
+) -> Result<bool, NoMemory>
+    requires at { buffer_search_of rooms.old.script (state_behind rooms.old) thread ≡ Some (seen rooms.old.script buffer_search) }
+    requires declared { buffer_search.b.0 < length rooms.old.script.buffers }
+    ensures found { IfOk result (λ taken. taken ≡ finds_choice rooms.old.script (state_behind rooms.old) thread) }
+    ensures made { result ≡ Ok true → rooms.new ≡ after_step rooms.old (entry_of rooms.old (actor.Thread thread)) }
+    ensures step { result ≡ Ok true → step_of (entry_of rooms.old (actor.Thread thread)) ≡ step_words.Made }
+    ensures none { result ≡ Ok false → rooms.new ≡ rooms.old }
+    ensures err { OnErr result (rooms.new ≡ rooms.old) }
+{
+    let Some((mem, spans)) = find(rooms, buffer_search)? else {
+        return Ok(false);
+    };
+    let kind = Kind::Take {
+        b: buffer_search.b,
+        mem,
+        spans,
+    };
+    make(rooms, Actor::Thread(thread), kind)?;
+    Ok(true)
+}
+
 /// Takes the pages that the search of `thread` finds, as the buffer's target. Returns false where no place to try now has a choice; nothing is
 /// changed then.
 ///
@@ -94,14 +125,5 @@ pub fn take_target(rooms: &mut Rooms, thread: u32) -> Result<bool, NoMemory>
     ensures err { OnErr result (rooms.new ≡ rooms.old) }
 {
     let buffer_search = buffer_search_at_work(rooms, thread);
-    let Some((mem, spans)) = find(rooms, buffer_search)? else {
-        return Ok(false);
-    };
-    let kind = Kind::Take {
-        b: buffer_search.b,
-        mem,
-        spans,
-    };
-    make(rooms, Actor::Thread(thread), kind)?;
-    Ok(true)
+    take_pages(rooms, thread, buffer_search)
 }

@@ -1,5 +1,5 @@
 -- A victim none of whose pages is due to go to a slot is let go.
-use Rattle.std.proofs.Common.{◌≡◌, ℕ, Bool, true, false, Option, Some, None, Ok, refl, ◌∙◌, ap}
+use Rattle.std.proofs.Common.{◌≡◌, ℕ, Bool, true, false, Option, Some, None, Ok, refl, sym, ◌∙◌, ap}
 use Rattle.std.specs.Prelude.{◌&&◌, is_some}
 use Rattle.std.proofs.lemmas.Bool.{false≢true, true≢false}
 use Rattle.ttm_base.specs.declared.Actor.TheVariants as actor
@@ -9,7 +9,6 @@ use Rattle.journal_model.specs.declared.state.Course.{Course}
 use Rattle.journal_model.specs.declared.state.State.{State}
 use Rattle.journal_model.specs.declared.state.Stage.{Stage}
 use Rattle.journal_model.specs.declared.state.Stage.TheVariants as stage
-use Rattle.journal_model.specs.declared.state.Task.{Task}
 use Rattle.journal_model.specs.declared.state.Task.TheVariants as task
 use Rattle.journal_model.specs.declared.entry.Kind.TheVariants as kind
 use Rattle.journal_model.specs.declared.entry.Why.{Why}
@@ -18,7 +17,6 @@ use Rattle.journal_model.specs.rules.State.{buffer, course}
 use Rattle.journal_model.specs.rules.Commands.{command_at_work}
 use Rattle.journal_model.specs.rules.Dry.{has_frame}
 use Rattle.journal_model.specs.rules.Holds.{free_slot}
-use Rattle.journal_model.specs.rules.Next.{next}
 use Rattle.journal_model.specs.rules.PageSteps.{first_frame_page, once_idle, step_of_empty, why_caught}
 use Rattle.journal_model.specs.rules.Search.{Step}
 use Rattle.journal_model.specs.rules.Tasks.{stage_of, task_of}
@@ -66,18 +64,11 @@ abbrev is_empty : Stage → Bool
 is_empty stage.Empty = true
 is_empty x = false
 
--- a victim is let go
-pub empty_next : (script : Script) (s : State) (t : ℕ) → stage_of (task_of script s t) ≡ stage.Empty → swap_out_due script s t ≡ false → (b : BufId) × (next script s (actor.Thread t) ≡ Ok (kind.Loose b))
-empty_next script s t empty h = by (task_of script s t) refl empty h
-  where
-    by : (x : Task) → task_of script s t ≡ x → stage_of x ≡ stage.Empty → can_swap script s (swapped_at (command_at_work script s t) (course s t) x) ≡ false → (b : BufId) × (next script s (actor.Thread t) ≡ Ok (kind.Loose b))
-    by (task.Empty b) is e due =
-        let work = command_at script s t stage.Empty empty (λ i. false≢true (ap is_empty i)) in
-        (b, next_at script s t work.0 (task.Empty b) work.1 is ∙ goes script s b (course s t) due)
-    by x is e due = absurd (false≢true (ap is_empty e))
-
 -- it is let go
-pub empty_lets_go : (r : Kept) (t : ℕ) → stage_of (task_of r.script (state_behind r) t) ≡ stage.Empty → swap_out_due r.script (state_behind r) t ≡ false → lets_go (entry_of r (actor.Thread t)) ≡ true
-empty_lets_go r t empty h =
-    let step = empty_next r.script (state_behind r) t empty h in
-    ap lets_go (entry_is r t (kind.Loose step.0) refl step.1)
+pub empty_lets_go : (r : Kept) (t : ℕ) (b : BufId) → task_of r.script (state_behind r) t ≡ task.Empty b → swap_out_due r.script (state_behind r) t ≡ false → lets_go (entry_of r (actor.Thread t)) ≡ true
+empty_lets_go r t b is h =
+    let s = state_behind r in
+    let work = command_at r.script s t stage.Empty (ap stage_of is) (λ i. false≢true (ap is_empty i)) in
+    let due = ap (λ x. can_swap r.script s (swapped_at (command_at_work r.script s t) (course s t) x)) (sym is) ∙ h in
+    let step = next_at r.script s t work.0 (task.Empty b) work.1 is ∙ goes r.script s b (course s t) due in
+    ap lets_go (entry_is r t (kind.Loose b) refl step)

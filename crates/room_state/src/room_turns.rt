@@ -7,7 +7,8 @@ ghost use Rattle.room_state.specs.room_turns.Turns.{entry_by, entry_of, step_by,
 
 pub use crate::Rooms;
 pub use buffer_searches::{
-    BufferSearch, SearchPlaces, buffer_search_at_work, place_at, place_at_work, place_count,
+    BufferSearch, SearchPlaces, buffer_search_at_work, buffer_search_for, place_at, place_at_work,
+    place_count,
 };
 use journal_model::{Entry, Kind};
 use ttm_base::{Actor, Need, NoMemory};

@@ -33,8 +33,9 @@ pub(crate) fn has_frame(rooms: &Rooms, b: BufId) -> bool
     }
 }
 
-/// Returns whether buffer `b` stands in VRAM and has a frame.
-pub(crate) fn has_frame_in_vram(rooms: &Rooms, b: BufId) -> bool
+/// Returns whether buffer `b` stands in VRAM and has a frame: one that gives back what its search took then gives back its frames first. Takes
+/// constant time.
+pub fn has_frame_in_vram(rooms: &Rooms, b: BufId) -> bool
     ensures { result ≡ (same_mem (buffer (state_behind rooms.now) b).mem Vram && words.has_frame (buffer (state_behind rooms.now) b)) }
 {
     match live(rooms, b) {

@@ -2,6 +2,7 @@ ghost use Rattle.std.specs.Prelude.{◌≡◌, ◌<◌, find, nat_lt, length, op
 ghost use Rattle.ttm_base.specs.declared.Actor.TheVariants as actor;
 ghost use Rattle.ttm_base.specs.declared.Loc.TheVariants as place;
 ghost use Rattle.journal_model.specs.declared.state.Stage.TheVariants as stage;
+ghost use Rattle.journal_model.specs.declared.state.Task.TheVariants as task;
 ghost use Rattle.journal_model.specs.rules.State.{buffer};
 ghost use Rattle.journal_model.specs.rules.Dry as dry;
 ghost use Rattle.journal_model.specs.rules.PageSteps as words;
@@ -88,6 +89,24 @@ fn next_of_fill(rooms: &Rooms, b: BufId) -> Result<Kind, Need>
     }
 }
 
+/// Fills buffer `b`, which `thread` fills: its next page gets the lowest free frame, with zeros or with the bytes of its slot (ttm_tt_populate,
+/// ttm_tt_swapin). Where no frame is free a buffer is caught for swap, and where none can be the fill fails, or a ghost that will give a frame is
+/// returned, to wait for.
+///
+/// # Errors
+///
+/// Lack of memory; nothing is changed.
+pub fn fill_buffer(rooms: &mut Rooms, thread: u32, b: BufId) -> Result<Step, NoMemory>
+    requires { task_of rooms.old.script (state_behind rooms.old) thread ≡ task.Fill b }
+    ensures step { IfOk result (λ step. step ≡ step_of (entry_of rooms.old (actor.Thread thread))) }
+    ensures waits { IfOk result (λ step. step ≡ made_unless (ghost_before_frame rooms.old.script (state_behind rooms.old))) }
+    ensures made { OnOk result (rooms.new ≡ after_step rooms.old (entry_of rooms.old (actor.Thread thread))) }
+    ensures err { OnErr result (rooms.new ≡ rooms.old) }
+{
+    let next = next_of_fill(rooms, b);
+    turn(rooms, Actor::Thread(thread), next)
+}
+
 /// Fills the buffer that `thread` fills, in the stage Fill: its next page gets the lowest free frame, with zeros or with the bytes of its slot
 /// (ttm_tt_populate, ttm_tt_swapin). Where no frame is free a buffer is caught for swap, and where none can be the fill fails.
 ///
@@ -104,6 +123,5 @@ pub fn fill(rooms: &mut Rooms, thread: u32) -> Result<Step, NoMemory>
     let Task::Fill(b) = rooms.task(thread) else {
         unreachable!()
     };
-    let next = next_of_fill(rooms, b);
-    turn(rooms, Actor::Thread(thread), next)
+    fill_buffer(rooms, thread, b)
 }

@@ -7,6 +7,7 @@ mod filling;
 mod giving;
 mod swapping;
 
-pub use filling::fill;
-pub use giving::{depopulate, is_depopulate_due};
-pub use swapping::{is_swap_out_due, swap_out_page};
+pub use buffers::has_frame_in_vram;
+pub use filling::{fill, fill_buffer};
+pub use giving::{depopulate, give_back_frames, is_depopulate_due};
+pub use swapping::{can_swap, is_swap_out_due, is_victim_due, swap_out, swap_out_page};

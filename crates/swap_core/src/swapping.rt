@@ -2,8 +2,10 @@ ghost use Rattle.std.specs.Prelude.{◌≡◌, ◌<◌, Some, true, find, length
 ghost use Rattle.ttm_base.specs.declared.Actor.TheVariants as actor;
 ghost use Rattle.ttm_base.specs.declared.Need.TheVariants as need;
 ghost use Rattle.journal_model.specs.declared.entry.Kind.TheVariants as kind;
+ghost use Rattle.journal_model.specs.declared.state.Task.TheVariants as task;
 ghost use Rattle.journal_model.specs.rules.State.{buffer};
 ghost use Rattle.journal_model.specs.rules.PageSteps as words;
+ghost use Rattle.journal_model.specs.rules.Tasks.{task_of};
 ghost use Rattle.room_state.specs.room_turns.Turns.{state_behind};
 ghost use Rattle.room_state.specs.room_turns.Acting.{made_unless};
 ghost use Rattle.room_state.specs.room_turns.Turns.{after_step, entry_of, step_of};
@@ -51,6 +53,26 @@ fn if_for_swap(course: &Course, b: BufId) -> Option<BufId>
     }
 }
 
+/// Returns whether a page of buffer `b` can go to a slot: the buffer has a frame, and a slot is free.
+pub fn can_swap(rooms: &Rooms, b: BufId) -> bool
+    ensures { result ≡ due.can_swap rooms.now.script (state_behind rooms.now) (Some b) }
+{
+    has_frame(rooms, b) && rooms.free_slot().is_some()
+}
+
+/// Returns whether a SwapOut of the victim `b` of `thread` is due: it was caught for swap, has a frame, and a slot is free. It is due whether the
+/// buffer is idle or not.
+pub fn is_victim_due(rooms: &Rooms, thread: u32, b: BufId) -> bool
+    requires { task_of rooms.now.script (state_behind rooms.now) thread ≡ task.Empty b }
+    ensures due { result ≡ swap_out_due rooms.now.script (state_behind rooms.now) thread }
+    ensures victim { result ≡ true → swapped rooms.now.script (state_behind rooms.now) thread ≡ Some b }
+{
+    match if_for_swap(rooms.course(thread), b) {
+        Some(_) => can_swap(rooms, b),
+        None => false,
+    }
+}
+
 /// Returns the buffer whose frames go to slots, or None where `thread` has none.
 fn swapped_buffer(rooms: &Rooms, thread: u32) -> Option<BufId>
     ensures { result ≡ swapped rooms.now.script (state_behind rooms.now) thread }
@@ -71,9 +93,31 @@ pub fn is_swap_out_due(rooms: &Rooms, thread: u32) -> bool
     ensures { result ≡ swap_out_due rooms.now.script (state_behind rooms.now) thread }
 {
     match swapped_buffer(rooms, thread) {
-        Some(b) => has_frame(rooms, b) && rooms.free_slot().is_some(),
+        Some(b) => can_swap(rooms, b),
         None => false,
     }
+}
+
+/// Moves the first page with a frame of buffer `b`, a victim that was caught for swap or the buffer of a swapout, to the lowest free slot, once the
+/// SwapOut of `thread` is due (ttm_tt_swapout). Where jobs use the buffer, returns the one to wait for first.
+///
+/// # Errors
+///
+/// Lack of memory; nothing is changed.
+pub fn swap_out(rooms: &mut Rooms, thread: u32, b: BufId) -> Result<Step, NoMemory>
+    requires buffer { swapped rooms.old.script (state_behind rooms.old) thread ≡ Some b }
+    requires due { swap_out_due rooms.old.script (state_behind rooms.old) thread ≡ true }
+    ensures step { IfOk result (λ step. step ≡ step_of (entry_of rooms.old (actor.Thread thread))) }
+    ensures waits { IfOk result (λ step. step ≡ made_unless (option_map need.Fence (job_before_swap rooms.old.script (state_behind rooms.old) thread))) }
+    ensures made { OnOk result (rooms.new ≡ after_step rooms.old (entry_of rooms.old (actor.Thread thread))) }
+    ensures err { OnErr result (rooms.new ≡ rooms.old) }
+{
+    let _legal = rooms.journal();
+    let Some(slot) = rooms.free_slot() else {
+        unreachable!()
+    };
+    let next = next_of_swap(rooms, b, slot);
+    turn(rooms, Actor::Thread(thread), next)
 }
 
 /// Moves the first page with a frame of a victim that was caught for swap, or of the buffer of a swapout, to the lowest free slot, once the SwapOut
@@ -89,13 +133,8 @@ pub fn swap_out_page(rooms: &mut Rooms, thread: u32) -> Result<Step, NoMemory>
     ensures made { OnOk result (rooms.new ≡ after_step rooms.old (entry_of rooms.old (actor.Thread thread))) }
     ensures err { OnErr result (rooms.new ≡ rooms.old) }
 {
-    let _legal = rooms.journal();
     let Some(b) = swapped_buffer(rooms, thread) else {
         unreachable!()
     };
-    let Some(slot) = rooms.free_slot() else {
-        unreachable!()
-    };
-    let next = next_of_swap(rooms, b, slot);
-    turn(rooms, Actor::Thread(thread), next)
+    swap_out(rooms, thread, b)
 }

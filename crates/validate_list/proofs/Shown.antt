@@ -2,6 +2,7 @@
 use Rattle.std.proofs.Common.{◌≡◌, ℕ, Bool, true, false, [], Option, Some, None, Ok, Err, refl, ◌∙◌, ap}
 use Rattle.std.specs.Prelude.{Result, ◌&&◌, is_some, if◌then◌else◌}
 use Rattle.ttm_base.specs.declared.BufId.{BufId}
+use Rattle.ttm_base.specs.declared.Deny.{Deny}
 use Rattle.ttm_base.specs.declared.Deny.TheVariants as deny
 use Rattle.ttm_base.specs.declared.Actor.TheVariants as actor
 use Rattle.ttm_base.specs.declared.JobId.{JobId}
@@ -12,6 +13,7 @@ use Rattle.journal_model.specs.declared.script.Command.TheVariants as command
 use Rattle.journal_model.specs.declared.state.State.{State}
 use Rattle.journal_model.specs.declared.state.Task.{Task}
 use Rattle.journal_model.specs.declared.state.Task.TheVariants as task
+use Rattle.journal_model.specs.declared.state.Stage.TheVariants as stage
 use Rattle.journal_model.specs.declared.entry.Entry.{Entry}
 use Rattle.journal_model.specs.declared.entry.Kind.{Kind}
 use Rattle.journal_model.specs.declared.entry.Kind.TheVariants as kind
@@ -26,13 +28,13 @@ use Rattle.journal_model.specs.rules.PageSteps.{first_frame_page, once_idle, unl
 use Rattle.journal_model.specs.rules.Next.{plain, step_of_act, step_of_task}
 use Rattle.journal_model.specs.rules.Legal.{World, shown_step}
 use Rattle.journal_model.specs.rules.Stores.{bytes_of, shown_by_read}
-use Rattle.journal_model.specs.rules.Tasks.{task_of}
+use Rattle.journal_model.specs.rules.Tasks.{stage_of, task_of}
 use Rattle.journal_model.specs.rules.Waits.{waited_for, jobs_before_read, jobs_before_write}
 use Rattle.room_state.specs.room_turns.Turns.{Kept, state_behind, world_behind}
 use Rattle.room_state.specs.room_turns.Acting.{entry_by, swaps}
 use Rattle.room_state.specs.room_turns.Turns.{entry_of}
-use Rattle.room_state.proofs.room_turns.Threads.{next_at}
-use Rattle.validate_list.specs.Acts.{act_of, is_read}
+use Rattle.room_state.proofs.room_turns.Threads.{command_at, next_at}
+use Rattle.validate_list.specs.Acts.{act_of, denied, is_read}
 
 -- the answer shows no bytes
 abbrev pub is_mute : Shown → Bool
@@ -72,6 +74,21 @@ pub bare_entry : (k : Kept) (t : ℕ) (cmd : Command) (x : Task) → command_at_
 bare_entry k t cmd x at is bare =
     ap (shown_step k.script (world_behind k) (actor.Thread t)) (next_at k.script (state_behind k) t cmd x at is)
     ∙ bare_same k.script (world_behind k) t (step_of_task k.script (state_behind k) (course (state_behind k) t) cmd x) bare
+
+-- a refusal's entry
+pub denied_entry : (k : Kept) (t : ℕ) (d : Deny) → denied (task_of k.script (state_behind k) t) ≡ Some d → entry_of k (actor.Thread t) ≡ Ok (record { who = actor.Thread t; kind = kind.Refused d })
+denied_entry k t d h = by (task_of k.script (state_behind k) t) refl h
+  where
+    by : (x : Task) → task_of k.script (state_behind k) t ≡ x → denied x ≡ Some d → entry_of k (actor.Thread t) ≡ Ok (record { who = actor.Thread t; kind = kind.Refused d })
+    by (task.Refuse e) is h =
+        let work = command_at k.script (state_behind k) t stage.Act (ap stage_of is) (λ e. cc) in
+        let same : e ≡ d = cc in
+        bare_entry k t work.0 (task.Refuse e) work.1 is refl ∙ ap (λ x. Ok (record { who = actor.Thread t; kind = kind.Refused x })) same
+    by (task.GiveUp e) is h =
+        let work = command_at k.script (state_behind k) t stage.Fail (ap stage_of is) (λ e. cc) in
+        let same : e ≡ d = cc in
+        bare_entry k t work.0 (task.GiveUp e) work.1 is refl ∙ ap (λ x. Ok (record { who = actor.Thread t; kind = kind.Refused x })) same
+    by x is h = cc
 
 -- ---- acting
 

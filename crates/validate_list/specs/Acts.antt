@@ -1,9 +1,12 @@
 -- What a command does once all is held, in place and filled.
-use Rattle.std.specs.Prelude.{◌≡◌, ◌<◌, Bool, true, false, Some, Result, length}
+use Rattle.std.specs.Prelude.{◌≡◌, ◌<◌, Bool, true, false, Option, Some, None, Result, length}
 use Rattle.ttm_base.specs.declared.BufId.{BufId}
+use Rattle.ttm_base.specs.declared.Deny.{Deny}
 use Rattle.ttm_base.specs.declared.Need.{Need}
 use Rattle.journal_model.specs.declared.script.Command.{Command}
 use Rattle.journal_model.specs.declared.script.Command.TheVariants as command
+use Rattle.journal_model.specs.declared.state.Task.{Task}
+use Rattle.journal_model.specs.declared.state.Task.TheVariants as task
 use Rattle.journal_model.specs.declared.entry.Kind.{Kind}
 use Rattle.journal_model.specs.declared.entry.Kind.TheVariants as kind
 use Rattle.journal_model.specs.declared.entry.Shown.TheVariants as shown
@@ -38,3 +41,9 @@ pub record IsActing (k : Kept) (cmd : Command) : Type 0 where
   pub declared : (b : BufId) → has_buffer (named cmd) b ≡ true → b.0 < length k.script.buffers
   pub no_free : frees (Some cmd) ≡ false
   pub no_swap : swaps k.script (state_behind k) (Some cmd) ≡ false
+
+-- why the task refuses the command, if it does
+abbrev pub denied : Task → Option Deny
+denied (task.Refuse d) = Some d
+denied (task.GiveUp d) = Some d
+denied _ = None

@@ -14,12 +14,13 @@ ghost use Rattle.room_state.specs.room_turns.Turns.{after_step, entry_of, step_o
 ghost use Rattle.validate_list.specs.Acts.{act_of, IsActing};
 
 use crate::enact::{Next, enact};
+use crate::refusals::refuse_for;
 use copy_packet::ProbeBytes;
 use journal_model::{Bytes, Command, Kind, Shown, Task};
-use room_state::room_turns::{Rooms, Step};
+use room_state::room_turns::{Rooms, Step, make};
 use state_words::unless_waiting;
 use std::alloc::Global;
-use ttm_base::{BufId, Deny, Need, NoMemory, Usage};
+use ttm_base::{Actor, BufId, Deny, Need, NoMemory, Usage};
 
 /// Returns an answer that shows nothing.
 fn plain() -> Kind
@@ -111,19 +112,36 @@ fn next_of_act(alloc: Global, rooms: &Rooms, thread: u32) -> Result<Next, NoMemo
     next_of_command(alloc, rooms, command)
 }
 
-/// Returns the next step of `thread`, which answers, refuses or does what its command is for.
-fn next_of_task(alloc: Global, rooms: &Rooms, thread: u32) -> Result<Next, NoMemory>
-    requires act { stage_of (task_of rooms.now.script (state_behind rooms.now) thread) ≡ stage.Act }
-    requires no_free { free_due rooms.now.script (state_behind rooms.now) thread ≡ false }
-    requires no_swap { swap_due rooms.now.script (state_behind rooms.now) thread ≡ false }
-    ensures { IfOk result (λ next. entry_of rooms.now (actor.Thread thread) ≡ entry_by thread next) }
+/// Answers the command of `thread`, which has done all that it is for, with an answer that shows nothing.
+///
+/// # Errors
+///
+/// Lack of memory; nothing is changed.
+pub fn answer(rooms: &mut Rooms, thread: u32) -> Result<Step, NoMemory>
+    requires { task_of rooms.old.script (state_behind rooms.old) thread ≡ task.Answer }
+    ensures step { IfOk result (λ step. step ≡ step_of (entry_of rooms.old (actor.Thread thread))) }
+    ensures made { OnOk result (rooms.new ≡ after_step rooms.old (entry_of rooms.old (actor.Thread thread))) }
+    ensures err { OnErr result (rooms.new ≡ rooms.old) }
 {
-    match rooms.task(thread) {
-        Task::Answer => Ok(Ok(plain())),
-        Task::Refuse(deny) => Ok(Ok(Kind::Refused { deny })),
-        Task::Act => next_of_act(alloc, rooms, thread),
-        _ => unreachable!(),
-    }
+    make(rooms, Actor::Thread(thread), plain())
+}
+
+/// Does what the command of `thread` is for, which is itself at work, or returns the job to wait for first. Neither a Free nor a SwapOut of a page is
+/// due: those are made by others.
+///
+/// # Errors
+///
+/// Lack of memory; nothing is changed.
+pub fn perform(alloc: Global, rooms: &mut Rooms, thread: u32) -> Result<Step, NoMemory>
+    requires act { task_of rooms.old.script (state_behind rooms.old) thread ≡ task.Act }
+    requires no_free { free_due rooms.old.script (state_behind rooms.old) thread ≡ false }
+    requires no_swap { swap_due rooms.old.script (state_behind rooms.old) thread ≡ false }
+    ensures step { IfOk result (λ step. step ≡ step_of (entry_of rooms.old (actor.Thread thread))) }
+    ensures made { OnOk result (rooms.new ≡ after_step rooms.old (entry_of rooms.old (actor.Thread thread))) }
+    ensures err { OnErr result (rooms.new ≡ rooms.old) }
+{
+    let next = next_of_act(alloc, rooms, thread)?;
+    enact(rooms, thread, next)
 }
 
 /// Makes the next entry of a command that does what it is for, in the stage Act, once all its buffers are held, in place and filled, and then its
@@ -141,6 +159,10 @@ pub fn act(alloc: Global, rooms: &mut Rooms, thread: u32) -> Result<Step, NoMemo
     ensures made { OnOk result (rooms.new ≡ after_step rooms.old (entry_of rooms.old (actor.Thread thread))) }
     ensures err { OnErr result (rooms.new ≡ rooms.old) }
 {
-    let next = next_of_task(alloc, rooms, thread)?;
-    enact(rooms, thread, next)
+    match rooms.task(thread) {
+        Task::Answer => answer(rooms, thread),
+        Task::Refuse(deny) => refuse_for(rooms, thread, deny),
+        Task::Act => perform(alloc, rooms, thread),
+        _ => unreachable!(),
+    }
 }

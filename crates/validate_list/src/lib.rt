@@ -9,7 +9,7 @@ mod locks;
 mod refusals;
 mod starts;
 
-pub use acts::act;
-pub use locks::lock;
-pub use refusals::refuse;
+pub use acts::{act, answer, perform};
+pub use locks::{lock, lock_buffer};
+pub use refusals::{refuse, refuse_for};
 pub use starts::start;

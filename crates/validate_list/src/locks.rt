@@ -49,6 +49,22 @@ fn next_of_lock(rooms: &Rooms, thread: u32, b: BufId) -> Next
     wait_die(course, mine, b, holder_of(rooms, b))
 }
 
+/// Reserves buffer `b`, the next that the command of `thread` names, backs off from an older holder, or returns the holder to wait for (`wait_die`).
+/// Where that buffer isn't live the command is refused.
+///
+/// # Errors
+///
+/// Lack of memory; nothing is changed.
+pub fn lock_buffer(rooms: &mut Rooms, thread: u32, b: BufId) -> Result<Step, NoMemory>
+    requires { task_of rooms.old.script (state_behind rooms.old) thread ≡ task.Lock b }
+    ensures step { IfOk result (λ step. step ≡ step_of (entry_of rooms.old (actor.Thread thread))) }
+    ensures made { OnOk result (rooms.new ≡ after_step rooms.old (entry_of rooms.old (actor.Thread thread))) }
+    ensures err { OnErr result (rooms.new ≡ rooms.old) }
+{
+    let next = next_of_lock(rooms, thread, b);
+    enact(rooms, thread, next)
+}
+
 /// Reserves the next buffer that the command of `thread` names, in the stage Lock, backs off from an older holder, or waits for the holder
 /// (`wait_die`). Where that buffer isn't live the command is refused.
 ///
@@ -65,6 +81,5 @@ pub fn lock(rooms: &mut Rooms, thread: u32) -> Result<Step, NoMemory>
     let Task::Lock(b) = rooms.task(thread) else {
         unreachable!()
     };
-    let next = next_of_lock(rooms, thread, b);
-    enact(rooms, thread, next)
+    lock_buffer(rooms, thread, b)
 }

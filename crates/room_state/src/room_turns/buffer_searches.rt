@@ -89,8 +89,8 @@ fn buffer_search_by(command: &Command, course: &Course, b: BufId, aim: SearchAim
     }
 }
 
-/// Returns the search for buffer `b`, whose pages it is the task of `thread` to find.
-fn buffer_search_for(rooms: &Rooms, thread: u32, b: BufId, aim: SearchAim) -> BufferSearch
+/// Returns the search for buffer `b` with `aim`, which is the task of `thread`. Takes constant time.
+pub fn buffer_search_for(rooms: &Rooms, thread: u32, b: BufId, aim: SearchAim) -> BufferSearch
     requires { task_of rooms.now.script (state_behind rooms.now) thread ≡ task.Search b aim }
     ensures at { buffer_search_of rooms.now.script (state_behind rooms.now) thread ≡ Some (seen rooms.now.script result) }
     ensures declared { result.b.0 < length rooms.now.script.buffers }
@@ -102,7 +102,7 @@ fn buffer_search_for(rooms: &Rooms, thread: u32, b: BufId, aim: SearchAim) -> Bu
     buffer_search_by(command, rooms.course(thread), b, aim)
 }
 
-/// Returns the search at which `thread` is.
+/// Returns the search at which `thread` is. Takes time as `Rooms::task` does.
 pub fn buffer_search_at_work(rooms: &Rooms, thread: u32) -> BufferSearch
     requires { stage_of (task_of rooms.now.script (state_behind rooms.now) thread) ≡ stage.Search }
     ensures at { buffer_search_of rooms.now.script (state_behind rooms.now) thread ≡ Some (seen rooms.now.script result) }

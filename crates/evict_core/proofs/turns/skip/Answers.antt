@@ -1,6 +1,0 @@
-use Rattle.std.proofs.Common.{sym}
-use Rattle.evict_core.proofs.Entries.{entry_skips}
-use Rattle.evict_core.proofs.turns.skip.Goals as goal
-
-pub make-requires : goal.make-requires
-make-requires c = entry_skips c.args.rooms.now c.args.thread c.in-Skip.b (sym c.in-Skip.ensures)
