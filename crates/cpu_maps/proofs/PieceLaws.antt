@@ -145,8 +145,8 @@ module _ (begun : List ℕ) (slots : Slots) (n capacity : ℕ) (has : HasPieces 
       let u = r.there in
       let same : get_or begun (page / 16) 0 ≡ get_or begun (other / 16) 0 = omega (arith, t, u) in
       let at : page % 16 ≡ other % 16 = omega (arith, t, u, same) in
-      let row = has.apart (page / 16) (other / 16) same b in
-      omega (arith, at, row)
+      let piece = has.apart (page / 16) (other / 16) same b in
+      omega (arith, at, piece)
 
   -- an entry that is set in its slot
   pub slot_set : (page slot : ℕ) (entry : Option PagePlace) → page < n → slot_of begun page ≡ Some slot
@@ -208,34 +208,34 @@ module _ (begun : List ℕ) (slots : Slots) (n capacity : ℕ) (has : HasPieces 
   }
 
 -- a piece that begins
-module _ (begun : List ℕ) (slots : Slots) (n capacity row : ℕ) (has : HasPieces begun slots n capacity) (within : row < length begun) (none : get_or begun row 0 ≡ 0) where
+module _ (begun : List ℕ) (slots : Slots) (n capacity piece : ℕ) (has : HasPieces begun slots n capacity) (within : piece < length begun) (none : get_or begun piece 0 ≡ 0) where
   abbrev numbered : List ℕ
-  numbered = set begun row (suc (count_begun begun))
+  numbered = set begun piece (suc (count_begun begun))
 
   abbrev longer : Slots
   longer = slots ++ replicate 16 None
 
-  this_row : (r : ℕ) → r ≡ row → get_or numbered r 0 ≡ suc (count_begun begun)
-  this_row r e = ap (λ i. get_or numbered i 0) e ∙ get_or-set_same begun row (suc (count_begun begun)) 0 within
+  this_row : (r : ℕ) → r ≡ piece → get_or numbered r 0 ≡ suc (count_begun begun)
+  this_row r e = ap (λ i. get_or numbered i 0) e ∙ get_or-set_same begun piece (suc (count_begun begun)) 0 within
 
-  other_row : (r : ℕ) → r ≢ row → get_or numbered r 0 ≡ get_or begun r 0
-  other_row r ne = get_or-set_other begun row r (suc (count_begun begun)) 0 ne
+  other_row : (r : ℕ) → r ≢ piece → get_or numbered r 0 ≡ get_or begun r 0
+  other_row r ne = get_or-set_other begun piece r (suc (count_begun begun)) 0 ne
 
-  either : {P : Type 0} (r : ℕ) → (r ≡ row → P) → (r ≢ row → P) → P
+  either : {P : Type 0} (r : ℕ) → (r ≡ piece → P) → (r ≢ piece → P) → P
   either r same other =
-      elim (cases_lt r row) [
+      elim (cases_lt r piece) [
         | inl u ↦ other (λ e. omega (arith, e, u))
-        | inr u ↦ elim (cases_lt row r) [
+        | inr u ↦ elim (cases_lt piece r) [
           | inl v ↦ other (λ e. omega (arith, e, v))
           | inr v ↦ same (omega (arith, u, v))
         ]
       ]
 
   pub room_for_one : count_begun begun * 16 + 16 ≤ capacity
-  room_for_one = let f = fewer_begun begun row within none in let r = has.room in omega (arith, f, r)
+  room_for_one = let f = fewer_begun begun piece within none in let r = has.room in omega (arith, f, r)
 
   more : count_begun numbered ≡ suc (count_begun begun)
-  more = one_more_begun begun row (count_begun begun) within none
+  more = one_more_begun begun piece (count_begun begun) within none
 
   inside_more : (r : ℕ) → get_or numbered r 0 ≤ count_begun numbered
   inside_more r =
@@ -256,7 +256,7 @@ module _ (begun : List ℕ) (slots : Slots) (n capacity row : ℕ) (has : HasPie
 
   pub has_one_more : (wider : ℕ) → capacity ≤ wider → HasPieces numbered longer n wider
   has_one_more wider wide =
-      let l = length-set begun row (suc (count_begun begun)) in
+      let l = length-set begun piece (suc (count_begun begun)) in
       let a = length-append slots (replicate 16 None) in
       let z : length {A = Option PagePlace} (replicate 16 None) ≡ 16 = length-replicate {A = Option PagePlace} 16 None in
       let m = more in
@@ -273,21 +273,21 @@ module _ (begun : List ℕ) (slots : Slots) (n capacity row : ℕ) (has : HasPie
         apart = apart_more;
       }
 
-  pub begun_slot : (page : ℕ) → page / 16 ≡ row → slot_of numbered page ≡ Some (count_begun begun * 16 + page % 16)
+  pub begun_slot : (page : ℕ) → page / 16 ≡ piece → slot_of numbered page ≡ Some (count_begun begun * 16 + page % 16)
   begun_slot page e = ap (λ number. slot_in number (page % 16)) (this_row (page / 16) e)
 
   in_longer : (k : ℕ) (s : Option ℕ) → slot_of begun k ≡ s → option_and_then (λ at. get_or longer at None) s ≡ option_and_then (λ at. get_or slots at None) s
   in_longer k None e = refl
   in_longer k (Some at) e = get_or_append_left slots (replicate 16 None) None at (slot_there begun slots n capacity has k at e)
 
-  in_new : (k : ℕ) → k / 16 ≡ row → entry_at numbered longer k ≡ entry_at begun slots k
+  in_new : (k : ℕ) → k / 16 ≡ piece → entry_at numbered longer k ≡ entry_at begun slots k
   in_new k e =
       let f : count_begun begun * 16 + k % 16 ≡ length slots + k % 16 = ap (λ m. m + k % 16) (sym has.full) in
       ap (λ s. option_and_then (λ at. get_or longer at None) s) (begun_slot k e)
       ∙ (ap (λ at. get_or longer at None) f ∙ get_or-append-add slots (replicate 16 None) (k % 16) None ∙ get_or-replicate 16 (k % 16) None None (omega arith))
       ∙ sym (ap (λ number. option_and_then (λ at. get_or slots at None) (slot_in number (k % 16))) (ap (λ r. get_or begun r 0) e ∙ none))
 
-  in_old : (k : ℕ) → k / 16 ≢ row → entry_at numbered longer k ≡ entry_at begun slots k
+  in_old : (k : ℕ) → k / 16 ≢ piece → entry_at numbered longer k ≡ entry_at begun slots k
   in_old k ne =
       ap (λ number. option_and_then (λ at. get_or longer at None) (slot_in number (k % 16))) (other_row (k / 16) ne) ∙ in_longer k (slot_of begun k) refl
 
