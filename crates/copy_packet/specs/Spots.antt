@@ -1,5 +1,5 @@
 -- Bytes of stores by their position in VRAM, or in frames.
-use Rattle.std.specs.Prelude.{ℕ, ◌+◌, ◌*◌, ◌≤◌, List, length}
+use Rattle.std.specs.Prelude.{ℕ, ◌+◌, ◌*◌, ◌%◌, ◌≤◌, List, length}
 use Rattle.ttm_base.specs.Pages.{Page, nowhere, vram, frame, slot}
 use Rattle.byte_store.specs.Parts.{overwritten, part}
 use Rattle.copy_packet.specs.declared.stores.Stores.{Stores}
@@ -17,6 +17,11 @@ spot_at (slot k) off = spot.Frames off
 abbrev pub Fits : Stores → Spot → ℕ → Type 0
 Fits s (spot.Vram at) len = at + len ≤ length s.vram
 Fits s (spot.Frames at) len = at + len ≤ length s.frames
+
+-- this number of bytes from a position on lie on one page
+abbrev pub IsOnPage : Spot → ℕ → Type 0
+IsOnPage (spot.Vram at) len = at % 4096 + len ≤ 4096
+IsOnPage (spot.Frames at) len = at % 4096 + len ≤ 4096
 
 -- the len bytes from a position on
 abbrev pub part_at : Stores → Spot → ℕ → List ℕ

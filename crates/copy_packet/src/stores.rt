@@ -2,7 +2,7 @@ ghost use Rattle.std.specs.Prelude.{◌≡◌, ◌+◌, ◌*◌, ◌≤◌, leng
 ghost use Rattle.ttm_base.specs.Pages.{translated};
 ghost use Rattle.byte_store.specs.Parts.{filled, xored};
 ghost use Rattle.copy_packet.specs.StoreBytes.{IsThere, aperture_of};
-ghost use Rattle.copy_packet.specs.Spots.{Fits, after_write, part_at, spot_at};
+ghost use Rattle.copy_packet.specs.Spots.{Fits, IsOnPage, after_write, part_at, spot_at};
 
 use aperture_table::Aperture;
 use byte_store::{ByteStore, PAGE};
@@ -58,9 +58,9 @@ impl Stores {
         }
     }
 
-    /// Lends `len` bytes, at most a page of them, from a position on.
+    /// Lends `len` bytes of one page from a position on.
     pub(crate) fn part(&self, spot: Spot, len: u64) -> &[u8]
-        requires page { len ≤ PAGE }
+        requires page { IsOnPage spot len }
         requires fits { Fits self.now spot len }
         ensures { result.now ≡ part_at self.now spot len }
     {
@@ -83,9 +83,10 @@ impl Stores {
         }
     }
 
-    /// Copies `len` bytes, at most a page of them, from position `from` to position `to`.
+    /// Copies `len` bytes of one page, from position `from` on, to position `to` of one page.
     pub(crate) fn copy(&mut self, to: Spot, from: Spot, len: u64)
-        requires page { len ≤ PAGE }
+        requires target_page { IsOnPage to len }
+        requires source_page { IsOnPage from len }
         requires target { Fits self.old to len }
         requires source { Fits self.old from len }
         ensures after { self.new ≡ after_write self.old to (part_at self.old from len) }
@@ -104,9 +105,10 @@ impl Stores {
         }
     }
 
-    /// Replaces `len` bytes at position `to`, at most a page of them, by their exclusive or with those at position `from`.
+    /// Replaces `len` bytes at position `to` of one page by their exclusive or with those at position `from` of one page.
     pub(crate) fn xor(&mut self, to: Spot, from: Spot, len: u64)
-        requires page { len ≤ PAGE }
+        requires target_page { IsOnPage to len }
+        requires source_page { IsOnPage from len }
         requires target { Fits self.old to len }
         requires source { Fits self.old from len }
         ensures after { self.new ≡ after_write self.old to (xored (part_at self.old to len) (part_at self.old from len)) }

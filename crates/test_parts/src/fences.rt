@@ -5,27 +5,27 @@ use std::process::Abort;
 use ttm_base::{JobId, Usage};
 
 /// Emits the next job of the context `ctx`, and returns it.
-pub fn emitted(line: &mut Timeline, ctx: u32) -> Option<JobId> {
-    if ctx < line.contexts() && line.next(ctx) < 100 {
-        return Some(line.emit(ctx));
+pub fn emitted(timeline: &mut Timeline, ctx: u32) -> Option<JobId> {
+    if ctx < timeline.contexts() && timeline.next(ctx) < 100 {
+        return Some(timeline.emit(ctx));
     }
     None
 }
 
 /// Marks a job of the context `ctx` as done, if one isn't. Returns whether there was one.
-fn finished(line: &mut Timeline, ctx: u32) -> bool {
-    if ctx < line.contexts() {
-        let num = line.next(ctx) - 1;
-        if !line.signalled(JobId { ctx, num }) {
-            line.done(ctx);
+fn finished(timeline: &mut Timeline, ctx: u32) -> bool {
+    if ctx < timeline.contexts() {
+        let num = timeline.next(ctx) - 1;
+        if !timeline.signalled(JobId { ctx, num }) {
+            timeline.done(ctx);
             return true;
         }
     }
     false
 }
 
-fn is_done(line: &Timeline, job: JobId) -> bool {
-    job.ctx < line.contexts() && line.signalled(job)
+fn is_done(timeline: &Timeline, job: JobId) -> bool {
+    job.ctx < timeline.contexts() && timeline.signalled(job)
 }
 
 fn add(set: &mut FenceSet, job: JobId, usage: Usage) {
@@ -34,17 +34,22 @@ fn add(set: &mut FenceSet, job: JobId, usage: Usage) {
     }
 }
 
-fn need(set: &FenceSet, usage: Usage, line: &Timeline) -> Option<JobId> {
-    if set.contexts() == line.contexts() {
-        return set.need(usage, line);
+fn need(set: &FenceSet, usage: Usage, timeline: &Timeline) -> Option<JobId> {
+    if set.contexts() == timeline.contexts() {
+        return set.need(usage, timeline);
     }
     None
 }
 
 /// Asserts for each usage which job is to be waited for.
-fn assert_need(rt: &impl Abort, set: &FenceSet, line: &Timeline, rows: &[(Usage, Option<JobId>)]) {
+fn assert_need(
+    rt: &impl Abort,
+    set: &FenceSet,
+    timeline: &Timeline,
+    rows: &[(Usage, Option<JobId>)],
+) {
     for (usage, wanted) in rows {
-        is_job(rt, need(set, *usage, line), *wanted);
+        is_job(rt, need(set, *usage, timeline), *wanted);
     }
 }
 
@@ -56,21 +61,21 @@ const JOBS: &[(JobId, bool)] = &[
 ];
 
 /// Asserts which of the jobs are done.
-fn assert_done(rt: &impl Abort, line: &Timeline) {
+fn assert_done(rt: &impl Abort, timeline: &Timeline) {
     for (job, done) in JOBS {
-        ensure(rt, is_done(line, *job) == *done);
+        ensure(rt, is_done(timeline, *job) == *done);
     }
 }
 
 /// Makes a timeline with the jobs 1 and 2 of context 0, of which the first is done, and job 1 of context 1.
 fn two_contexts(rt: &impl Abort, alloc: Global) -> Timeline {
-    let mut line = Timeline::new(alloc, 2).expect(rt, "contexts");
+    let mut timeline = Timeline::new(alloc, 2).expect(rt, "contexts");
     for (job, _done) in JOBS {
-        is_job(rt, emitted(&mut line, job.ctx), Some(*job));
+        is_job(rt, emitted(&mut timeline, job.ctx), Some(*job));
     }
-    ensure(rt, finished(&mut line, 0));
-    assert_done(rt, &line);
-    line
+    ensure(rt, finished(&mut timeline, 0));
+    assert_done(rt, &timeline);
+    timeline
 }
 
 const WRITE: JobId = JobId { ctx: 0, num: 2 };
@@ -92,12 +97,12 @@ const READ_BEHIND_WRITE: &[(Usage, Option<JobId>)] = &[(Usage::Read, Some(WRITE)
 const READ_BEHIND_KERNEL: &[(Usage, Option<JobId>)] = &[(Usage::Read, Some(KERNEL))];
 
 /// Makes a set of a write, and a use by the kernel. Asserts that it has no job to wait for before.
-fn two_fences(rt: &impl Abort, alloc: Global, line: &Timeline) -> FenceSet {
+fn two_fences(rt: &impl Abort, alloc: Global, timeline: &Timeline) -> FenceSet {
     let mut set = FenceSet::new(alloc, 2).expect(rt, "contexts");
-    assert_need(rt, &set, line, NONE);
+    assert_need(rt, &set, timeline, NONE);
     add(&mut set, WRITE, Usage::Write);
     add(&mut set, KERNEL, Usage::Kernel);
-    assert_need(rt, &set, line, WRITTEN);
+    assert_need(rt, &set, timeline, WRITTEN);
     set
 }
 
@@ -113,13 +118,13 @@ fn copied(rt: &impl Abort, alloc: Global, set: &FenceSet) -> FenceSet {
 #[test]
 fn usages_and_what_they_wait_for(rt: HostRuntime) {
     let rt = &rt;
-    let mut line = two_contexts(rt, rt.alloc());
-    let mut set = two_fences(rt, rt.alloc(), &line);
+    let mut timeline = two_contexts(rt, rt.alloc());
+    let mut set = two_fences(rt, rt.alloc(), &timeline);
     let other = copied(rt, rt.alloc(), &set);
-    assert_need(rt, &other, &line, READ_BEHIND_KERNEL);
-    finished(&mut line, 1);
-    assert_need(rt, &other, &line, NONE);
-    assert_need(rt, &set, &line, READ_BEHIND_WRITE);
+    assert_need(rt, &other, &timeline, READ_BEHIND_KERNEL);
+    finished(&mut timeline, 1);
+    assert_need(rt, &other, &timeline, NONE);
+    assert_need(rt, &set, &timeline, READ_BEHIND_WRITE);
     set.clear();
-    assert_need(rt, &set, &line, NONE);
+    assert_need(rt, &set, &timeline, NONE);
 }

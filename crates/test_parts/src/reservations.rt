@@ -36,23 +36,23 @@ const WRITTEN: &[(Usage, Option<JobId>)] = &[
 ];
 
 /// Asserts that the write is waited for until the reservation is cleared.
-fn assert_waits(rt: &impl Abort, resv: &mut Resv, line: &Timeline) {
-    ensure(rt, resv.fences().contexts() == line.contexts());
+fn assert_waits(rt: &impl Abort, resv: &mut Resv, timeline: &Timeline) {
+    ensure(rt, resv.fences().contexts() == timeline.contexts());
     for (usage, wanted) in WRITTEN {
-        is_job(rt, resv.need(*usage, line), *wanted);
+        is_job(rt, resv.need(*usage, timeline), *wanted);
     }
     resv.clear();
-    ensure(rt, resv.fences().contexts() == line.contexts());
-    is_job(rt, resv.need(Usage::Read, line), None);
+    ensure(rt, resv.fences().contexts() == timeline.contexts());
+    is_job(rt, resv.need(Usage::Read, timeline), None);
 }
 
 #[test]
 fn jobs_are_waited_for_by_usage(rt: HostRuntime) {
     let rt = &rt;
-    let mut line = Timeline::new(rt.alloc(), 1).expect(rt, "a context");
-    is_job(rt, emitted(&mut line, 0), Some(JOB));
+    let mut timeline = Timeline::new(rt.alloc(), 1).expect(rt, "a context");
+    is_job(rt, emitted(&mut timeline, 0), Some(JOB));
     let mut resv = Resv::new(rt.alloc(), 1).expect(rt, "a context");
     ensure(rt, resv.fences().contexts() == 1);
     resv.add_fence(JOB, Usage::Write);
-    assert_waits(rt, &mut resv, &line);
+    assert_waits(rt, &mut resv, &timeline);
 }

@@ -1,16 +1,17 @@
-ghost use Rattle.std.specs.Prelude.{◌≡◌, ◌+◌, ◌*◌, ◌≤◌, length};
+ghost use Rattle.std.specs.Prelude.{◌≡◌, ◌+◌, ◌*◌, ◌%◌, ◌≤◌, length};
 
-use crate::wanted::{are_bytes, ensure};
+use crate::wanted::ensure;
 use byte_store::ByteStore;
 use std::alloc::Global;
 use std::process::Abort;
 
 /// Asserts that the store has these bytes from `at` on.
 pub fn assert_bytes(rt: &impl Abort, store: &ByteStore, at: u64, want: &[u8])
-    requires page { length want.now ≤ 4096 }
-    requires inside { at + length want.now ≤ length store.now }
+    requires { at + length want.now ≤ length store.now }
 {
-    are_bytes(rt, store.part(at, want.len() as u64), want);
+    for i in 0..want.len() {
+        ensure(rt, store.get(at.saturating_add(i as u64)) == want[i]);
+    }
 }
 
 /// Asserts that `len` bytes from `at` on are at most a page, and within `pages` pages.
@@ -20,6 +21,13 @@ pub fn assert_within(rt: &impl Abort, at: u64, len: u64, pages: u32)
 {
     let size = 4096 * pages as u64;
     ensure(rt, len <= 4096 && len <= size && at <= size - len);
+}
+
+/// Asserts that `len` bytes from `at` on are of one page.
+pub fn assert_on_page(rt: &impl Abort, at: u64, len: u64)
+    ensures { at % 4096 + len ≤ 4096 }
+{
+    ensure(rt, len <= 4096 && at % 4096 <= 4096 - len);
 }
 
 /// What is done to a store, as its calls are named, or bytes that it is to have from a place on.
@@ -57,15 +65,20 @@ fn take(rt: &impl Abort, store: &mut ByteStore, pages: u32, step: Step)
         Step::CopyWithin(to, from, len) => {
             assert_within(rt, to, len, pages);
             assert_within(rt, from, len, pages);
+            assert_on_page(rt, to, len);
+            assert_on_page(rt, from, len);
             store.copy_within(to, from, len);
         }
         Step::XorPagePart(at, bytes) => {
             assert_within(rt, at, bytes.len() as u64, pages);
+            assert_on_page(rt, at, bytes.len() as u64);
             store.xor_page_part(at, bytes);
         }
         Step::XorWithin(to, from, len) => {
             assert_within(rt, to, len, pages);
             assert_within(rt, from, len, pages);
+            assert_on_page(rt, to, len);
+            assert_on_page(rt, from, len);
             store.xor_within(to, from, len);
         }
         Step::ZeroPage(page) => {
@@ -136,6 +149,22 @@ const FAR_XOR: &[Step] = &[
     Step::Has(4096 * 38, &[0, 7, 0]),
 ];
 
+/// A page that was zeroed has zeros beside what is written to it then, and reads as zeros where it is copied from.
+const CLEARED: &[Step] = &[
+    Step::Fill(0, 4096, 7),
+    Step::Fill(4096, 4096, 7),
+    Step::ZeroPage(0),
+    Step::CopyWithin(8, 0, 4),
+    Step::Has(0, SIXTEEN),
+    Step::ZeroPage(0),
+    Step::Put(5, 9),
+    Step::Has(4, &[0, 9, 0]),
+    Step::Has(4090, &[0, 0, 0, 0, 0, 0, 7]),
+    Step::ZeroPage(1),
+    Step::XorWithin(4096, 5, 1),
+    Step::Has(4095, &[0, 9, 0]),
+];
+
 /// The number of pages of a store, and the steps in it.
 const STORES: &[(u32, &[Step])] = &[
     (2, ON_TWO_PAGES),
@@ -143,6 +172,7 @@ const STORES: &[(u32, &[Step])] = &[
     (40, FAR_BYTE),
     (40, FAR_COPIES),
     (40, FAR_XOR),
+    (2, CLEARED),
 ];
 
 /// Takes the steps in a new store of `pages` pages.

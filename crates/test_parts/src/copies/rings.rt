@@ -138,11 +138,11 @@ fn with_reader(rt: &impl Abort, alloc: Global) -> FenceSet {
 }
 
 /// Asserts that the head has run no packet and waits for the first job.
-fn assert_waits(rt: &impl Abort, rings: &Rings, line: &Timeline) {
-    ensure(rt, line.contexts() == rings.contexts());
+fn assert_waits(rt: &impl Abort, rings: &Rings, timeline: &Timeline) {
+    ensure(rt, timeline.contexts() == rings.contexts());
     ensure(rt, 0 < rings.contexts());
     ensure(rt, rings.head(0).is_some());
-    is_job(rt, rings.ready(0, line), Some(ONE));
+    is_job(rt, rings.ready(0, timeline), Some(ONE));
     ensure(rt, rings.ran(0) == 0);
 }
 
@@ -150,10 +150,10 @@ fn assert_waits(rt: &impl Abort, rings: &Rings, line: &Timeline) {
 #[test]
 fn head_waits_for_all_usages(rt: HostRuntime) {
     let rt = &rt;
-    let line = Timeline::new(rt.alloc(), 1).expect(rt, "a context");
+    let timeline = Timeline::new(rt.alloc(), 1).expect(rt, "a context");
     let mut rings = Rings::new(rt.alloc(), 1).expect(rt, "a ring");
     let waits = with_reader(rt, rt.alloc());
     push(rt, &mut rings, TWO, waits, Vec::new(rt.alloc()));
-    assert_waits(rt, &rings, &line);
+    assert_waits(rt, &rings, &timeline);
     drop(rings);
 }

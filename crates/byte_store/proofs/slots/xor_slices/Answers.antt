@@ -1,7 +1,7 @@
 use Rattle.std.proofs.Common.{arith}
 use Rattle.std.proofs.lemmas.Grind.{common_steps}
 use Rattle.byte_store.proofs.PartLaws.{xor_step}
-use Rattle.byte_store.proofs.xor_slices.Goals as goal
+use Rattle.byte_store.proofs.slots.xor_slices.Goals as goal
 
 pub loop-i-preserved : goal.loop-i-preserved
 loop-i-preserved c = record {

@@ -1,6 +1,6 @@
 use Rattle.std.proofs.Common.{◌≡◌, take, drop}
 use Rattle.byte_store.specs.Parts.{xored}
-use Rattle.byte_store.proofs.xor_slices.Given as goal
+use Rattle.byte_store.proofs.slots.xor_slices.Given as goal
 
 -- the bytes so far are done, and the others as they were
 abbrev pub invariant-loop-i : goal.invariant-loop-i
