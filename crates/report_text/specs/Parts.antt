@@ -9,15 +9,15 @@ use Rattle.journal_model.specs.scripts.Words.{Text, line}
 use Rattle.journal_model.specs.reports.EntryText.{entry_line}
 use Rattle.journal_model.specs.reports.ReportText.{account_line, maps_part, spaces_part, thread_results}
 use Rattle.page_accounts.specs.declared.accounts.Accounts.{Accounts}
-use Rattle.page_accounts.specs.Accounts.{told}
+use Rattle.page_accounts.specs.Accounts.{as_account}
 
 -- the lines of four accounts
 abbrev pub four_lines : Sizes → Accounts → Text
 four_lines sizes a =
-    account_line (codes "vram") sizes.vram (told a.vram)
-    ++ account_line (codes "tt") sizes.tt (told a.tt)
-    ++ account_line (codes "frames") sizes.frames (told a.frames)
-    ++ account_line (codes "swap") sizes.swap (told a.swap)
+    account_line (codes "vram") sizes.vram (as_account a.vram)
+    ++ account_line (codes "tt") sizes.tt (as_account a.tt)
+    ++ account_line (codes "frames") sizes.frames (as_account a.frames)
+    ++ account_line (codes "swap") sizes.swap (as_account a.swap)
 
 -- the parts before the results
 abbrev pub journal_part : Script → List Entry → Text

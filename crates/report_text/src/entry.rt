@@ -31,63 +31,63 @@ fn put_kind(line: &mut Line, script: &Script, kind: &Kind) -> Result<(), NoMemor
     ensures { OnOk result (line.new ≡ line.old ++ spaced_out (kind_words script.now kind.now)) }
 {
     match kind {
-        Kind::Ticket { s } => put_count(line, b"ticket", s.0),
-        Kind::Reserve { b } => put_named(line, b"reserve", script, *b),
-        Kind::Backoff { b, s } => put_numbers(line, b"backoff", script, *b, &[s.0]),
-        Kind::New { b } => put_named(line, b"new", script, *b),
-        Kind::Free { b, g } => put_numbers(line, b"free", script, *b, &[*g]),
+        Kind::Ticket { s } => put_count(line, b" ticket ", s.0),
+        Kind::Reserve { b } => put_named(line, b" reserve ", script, *b),
+        Kind::Backoff { b, s } => put_numbers(line, b" backoff ", script, *b, &[s.0]),
+        Kind::New { b } => put_named(line, b" new ", script, *b),
+        Kind::Free { b, g } => put_numbers(line, b" free ", script, *b, &[*g]),
         Kind::Take { b, mem, spans } => put_take(line, script, *b, *mem, spans.items()),
-        Kind::Untake { b, mem } => put_mem(line, b"untake", script, *b, *mem),
+        Kind::Untake { b, mem } => put_mem(line, b" untake ", script, *b, *mem),
         Kind::Populate { b, page, frame } => {
-            put_pages(line, b"populate", script, *b, &[*page, *frame])
+            put_pages(line, b" populate ", script, *b, &[*page, *frame])
         }
         Kind::SwapIn {
             b,
             page,
             slot,
             frame,
-        } => put_pages(line, b"swapin", script, *b, &[*page, *slot, *frame]),
-        Kind::Depopulate { b } => put_named(line, b"depopulate", script, *b),
-        Kind::Bind { b } => put_named(line, b"bind", script, *b),
-        Kind::Unbind { b } => put_named(line, b"unbind", script, *b),
+        } => put_pages(line, b" swapin ", script, *b, &[*page, *slot, *frame]),
+        Kind::Depopulate { b } => put_depopulate(line, script, *b),
+        Kind::Bind { b } => put_named(line, b" bind ", script, *b),
+        Kind::Unbind { b } => put_named(line, b" unbind ", script, *b),
         Kind::Move { b, mem, num, left } => put_move(line, script, *b, *mem, *num, *left),
         Kind::Catch { b, why } => put_catch(line, script, *b, *why),
-        Kind::Loose { b } => put_named(line, b"loose", script, *b),
-        Kind::Skip { b } => put_named(line, b"skip", script, *b),
+        Kind::Loose { b } => put_named(line, b" loose ", script, *b),
+        Kind::Skip { b } => put_named(line, b" skip ", script, *b),
         Kind::Dry { b, k, why } => put_dry(line, script, *b, *k, why),
         Kind::SwapOut { b, page, slot } => {
-            put_pages(line, b"swapout", script, *b, &[*page, *slot])
+            put_pages(line, b" swapout ", script, *b, &[*page, *slot])
         }
-        Kind::NoPages { b } => put_named(line, b"nopages", script, *b),
+        Kind::NoPages { b } => put_named(line, b" nopages ", script, *b),
         Kind::Arm { engine, num } => put_arm(line, *engine, *num),
         Kind::Packet { num, k, piece } => put_packet(line, *num, *k, piece.items()),
-        Kind::Done { num } => put_count(line, b"done", *num),
-        Kind::Reap { g } => put_count(line, b"reap", *g),
-        Kind::Bulk { group } => put_count(line, b"bulk", u64::from(*group)),
+        Kind::Done { num } => put_count(line, b" done ", *num),
+        Kind::Reap { g } => put_count(line, b" reap ", *g),
+        Kind::Bulk { group } => put_count(line, b" bulk ", u64::from(*group)),
         Kind::Result { shown } => put_result(line, shown),
         Kind::Refused { deny } => put_refused(line, *deny),
     }
 }
 
-/// Puts a word and a number into `line`.
+/// Puts `word`, with a space before and after it, and a number into `line`.
 #[inline(always)]
-pub(crate) fn put_count(line: &mut Line, word: &[u8], number: u64) -> Result<(), NoMemory>
-    ensures { OnOk result (line.new ≡ line.old ++ spaced_out (word.now ∷ decimal number ∷ [])) }
+fn put_count(line: &mut Line, word: &[u8], number: u64) -> Result<(), NoMemory>
+    ensures { OnOk result (line.new ≡ line.old ++ word.now ++ decimal number) }
 {
-    line.word(word)?;
-    line.number(number)
+    line.put(word)?;
+    line.put_number(number)
 }
 
-/// Puts a word and the name of buffer `b` into `line`.
+/// Puts `word`, with a space before and after it, and the name of buffer `b` into `line`.
 #[inline(always)]
 fn put_named(line: &mut Line, word: &[u8], script: &Script, b: BufId) -> Result<(), NoMemory>
-    ensures { OnOk result (line.new ≡ line.old ++ spaced_out (word.now ∷ name_of script.now b ∷ [])) }
+    ensures { OnOk result (line.new ≡ line.old ++ word.now ++ name_of script.now b) }
 {
-    line.word(word)?;
-    line.word(name_of(script, b))
+    line.put(word)?;
+    line.put(name_of(script, b))
 }
 
-/// Puts a word, the name of buffer `b`, and `numbers` into `line`.
+/// Puts `word`, with a space before and after it, the name of buffer `b`, and `numbers` into `line`.
 #[inline(always)]
 fn put_numbers(
     line: &mut Line,
@@ -96,7 +96,7 @@ fn put_numbers(
     b: BufId,
     numbers: &[u64],
 ) -> Result<(), NoMemory>
-    ensures { OnOk result (line.new ≡ line.old ++ spaced_out (word.now ∷ name_of script.now b ∷ map decimal numbers.now)) }
+    ensures { OnOk result (line.new ≡ line.old ++ (word.now ++ name_of script.now b ++ spaced_out (map decimal numbers.now))) }
 {
     put_named(line, word, script, b)?;
     for number in numbers {
@@ -105,7 +105,7 @@ fn put_numbers(
     Ok(())
 }
 
-/// Puts a word, the name of buffer `b`, and the numbers of pages, frames or slots, into `line`.
+/// Puts `word`, with a space before and after it, the name of buffer `b`, and the numbers of pages, frames or slots, into `line`.
 #[inline(always)]
 fn put_pages(
     line: &mut Line,
@@ -114,7 +114,7 @@ fn put_pages(
     b: BufId,
     numbers: &[u32],
 ) -> Result<(), NoMemory>
-    ensures { OnOk result (line.new ≡ line.old ++ spaced_out (word.now ∷ name_of script.now b ∷ map decimal numbers.now)) }
+    ensures { OnOk result (line.new ≡ line.old ++ (word.now ++ name_of script.now b ++ spaced_out (map decimal numbers.now))) }
 {
     put_named(line, word, script, b)?;
     for number in numbers {
@@ -123,7 +123,7 @@ fn put_pages(
     Ok(())
 }
 
-/// Puts a word, the name of buffer `b`, and a memory type into `line`.
+/// Puts `word`, with a space before and after it, the name of buffer `b`, and a memory type into `line`.
 #[inline(always)]
 fn put_mem(
     line: &mut Line,
@@ -132,10 +132,17 @@ fn put_mem(
     b: BufId,
     mem: Mem,
 ) -> Result<(), NoMemory>
-    ensures { OnOk result (line.new ≡ line.old ++ spaced_out (word.now ∷ name_of script.now b ∷ mem_word mem ∷ [])) }
+    ensures { OnOk result (line.new ≡ line.old ++ (word.now ++ name_of script.now b ++ 32 ∷ mem_word mem)) }
 {
     put_named(line, word, script, b)?;
     line.word(mem_word(mem))
+}
+
+fn put_depopulate(line: &mut Line, script: &Script, b: BufId) -> Result<(), NoMemory>
+    ensures { OnOk result (line.new ≡ line.old ++ spaced_out (codes "depopulate" ∷ name_of script.now b ∷ [])) }
+{
+    line.word(b"depopulate")?;
+    line.word(name_of(script, b))
 }
 
 fn put_take(
@@ -147,7 +154,7 @@ fn put_take(
 ) -> Result<(), NoMemory>
     ensures { OnOk result (line.new ≡ line.old ++ spaced_out (codes "take" ∷ name_of script.now b ∷ mem_word mem ∷ spans_word spans.now ∷ [])) }
 {
-    put_mem(line, b"take", script, b, mem)?;
+    put_mem(line, b" take ", script, b, mem)?;
     line.put_byte(b' ')?;
     put_spans(line, spans)
 }
@@ -162,7 +169,7 @@ fn put_move(
 ) -> Result<(), NoMemory>
     ensures { OnOk result (line.new ≡ line.old ++ spaced_out (codes "move" ∷ name_of script.now b ∷ mem_word mem ∷ decimal num ∷ left_word left ∷ [])) }
 {
-    put_mem(line, b"move", script, b, mem)?;
+    put_mem(line, b" move ", script, b, mem)?;
     line.number(num)?;
     match left {
         Left::Now => line.word(b"now"),
@@ -173,7 +180,7 @@ fn put_move(
 fn put_catch(line: &mut Line, script: &Script, b: BufId, why: Why) -> Result<(), NoMemory>
     ensures { OnOk result (line.new ≡ line.old ++ spaced_out (codes "catch" ∷ name_of script.now b ∷ why_word why ∷ [])) }
 {
-    put_named(line, b"catch", script, b)?;
+    put_named(line, b" catch ", script, b)?;
     line.word(match why {
         Why::Vram => b"vram",
         Why::Tt => b"tt",
@@ -184,7 +191,7 @@ fn put_catch(line: &mut Line, script: &Script, b: BufId, why: Why) -> Result<(),
 fn put_dry(line: &mut Line, script: &Script, b: BufId, k: u32, why: &DryWhy) -> Result<(), NoMemory>
     ensures { OnOk result (line.new ≡ line.old ++ spaced_out (codes "dry" ∷ name_of script.now b ∷ decimal k ∷ dry_word script.now why.now ∷ [])) }
 {
-    put_pages(line, b"dry", script, b, &[k])?;
+    put_pages(line, b" dry ", script, b, &[k])?;
     line.put_byte(b' ')?;
     match why {
         DryWhy::Short => line.put(b"short"),
@@ -247,7 +254,7 @@ fn put_arm(line: &mut Line, engine: u32, num: u64) -> Result<(), NoMemory>
 fn put_packet(line: &mut Line, num: u64, k: u32, piece: &[u8]) -> Result<(), NoMemory>
     ensures { OnOk result (line.new ≡ line.old ++ spaced_out (codes "packet" ∷ decimal num ∷ decimal k ∷ piece_words piece.now)) }
 {
-    put_count(line, b"packet", num)?;
+    put_count(line, b" packet ", num)?;
     line.number(u64::from(k))?;
     if piece.is_empty() {
         return Ok(());

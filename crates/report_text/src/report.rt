@@ -8,7 +8,7 @@ ghost use Rattle.journal_model.specs.reports.EntryText.{entry_line};
 ghost use Rattle.journal_model.specs.reports.ReportText.{account_line, account_lines, answer_line, answer_of, answer_words, report, thread_results};
 ghost use Rattle.journal_model.specs.statements.Complete.{is_by_thread, thread_numbers};
 ghost use Rattle.journal_model.specs.rules.Legal.{state_of};
-ghost use Rattle.page_accounts.specs.Accounts.{AreAccountsOf, told};
+ghost use Rattle.page_accounts.specs.Accounts.{AreAccountsOf, as_account};
 ghost use Rattle.report_mappings.specs.Faults.{IsLegalIfMapped};
 ghost use Rattle.report_mappings.specs.Requests.{are_in_spaces};
 ghost use Rattle.report_text.specs.Lines as lines;
@@ -17,7 +17,7 @@ ghost use Rattle.report_text.specs.Parts.{four_lines, journal_part, mappings_par
 ghost use Rattle.text_line.specs.Spaced.{spaced_out};
 ghost use Rattle.report_text.specs.WriteFault.{faults_after_writing};
 
-use crate::entry::{make_entry_line, put_answer, put_count};
+use crate::entry::{make_entry_line, put_answer};
 use io_edge::{Failed, Sink, write_all};
 use journal_model::{Entry, Kind, Script, Sizes};
 use page_accounts::{Account, Accounts};
@@ -268,12 +268,20 @@ fn write_account<K: Sink>(
     account: &Account,
     sink: &mut K,
 ) -> Result<(), WriteFault>
-    ensures text { Writes result (K.written sink.old) (K.written sink.new) (account_line name.now size (told account.now)) }
+    ensures text { Writes result (K.written sink.old) (K.written sink.new) (account_line name.now size (as_account account.now)) }
     ensures faults { K.faults sink.new ≡ faults_after_writing result (K.faults sink.old) }
     ensures lines { K.broken sink.new ≡ K.broken sink.old }
 {
     make_account_line(line, name, size, account)?;
     write_lines(line.bytes(), sink)
+}
+
+/// Puts a space, `word`, another space and `number` into `line`.
+fn put_word_and_number(line: &mut Line, word: &[u8], number: u64) -> Result<(), NoMemory>
+    ensures { OnOk result (line.new ≡ line.old ++ spaced_out (word.now ∷ decimal number ∷ [])) }
+{
+    line.word(word)?;
+    line.number(number)
 }
 
 fn make_account_line(
@@ -282,15 +290,15 @@ fn make_account_line(
     size: u32,
     account: &Account,
 ) -> Result<(), NoMemory>
-    ensures { OnOk result (line.new ≡ account_line name.now size (told account.now)) }
+    ensures { OnOk result (line.new ≡ account_line name.now size (as_account account.now)) }
 {
     line.clear();
     line.put(name)?;
-    put_count(line, b"size", u64::from(size))?;
-    put_count(line, b"free", account.free)?;
-    put_count(line, b"live", account.live)?;
-    put_count(line, b"target", account.target)?;
-    put_count(line, b"ghost", account.ghosts)?;
+    put_word_and_number(line, b"size", u64::from(size))?;
+    put_word_and_number(line, b"free", account.free)?;
+    put_word_and_number(line, b"live", account.live)?;
+    put_word_and_number(line, b"target", account.target)?;
+    put_word_and_number(line, b"ghost", account.ghosts)?;
     line.end_line()
 }
 

@@ -1,4 +1,4 @@
-ghost use Rattle.std.specs.Prelude.{◌≡◌, ◌++◌, ◌∷◌, OnOk, decimal};
+ghost use Rattle.std.specs.Prelude.{◌≡◌, ◌≤◌, ◌++◌, ◌∷◌, OnOk, decimal, length};
 ghost use Rattle.journal_model.specs.scripts.Words.{actor_word, hex, hex_byte, mem_word, name_of};
 
 use crate::Line;
@@ -39,12 +39,36 @@ pub fn put_actor(line: &mut Line, who: Actor) -> Result<(), NoMemory>
 pub fn put_numbered(line: &mut Line, letter: u8, number: u64) -> Result<(), NoMemory>
     ensures { OnOk result (line.new ≡ line.old ++ letter ∷ decimal number) }
 {
-    line.put_byte(letter)?;
-    line.put_number(number)
+    line.put_numbered(letter, number)
 }
+
+/// The number of bytes whose digits are written together.
+const FEW: usize = 32;
 
 /// Adds the bytes, each as two hexadecimal digits.
 pub fn put_hex(line: &mut Line, bytes: &[u8]) -> Result<(), NoMemory>
+    ensures { OnOk result (line.new ≡ line.old ++ hex bytes.now) }
+{
+    if bytes.len() <= FEW {
+        put_hex_few(line, bytes)
+    } else {
+        put_hex_many(line, bytes)
+    }
+}
+
+/// Adds the digits of at most `FEW` bytes.
+fn put_hex_few(line: &mut Line, bytes: &[u8]) -> Result<(), NoMemory>
+    requires { length bytes.now ≤ 32 }
+    ensures { OnOk result (line.new ≡ line.old ++ hex bytes.now) }
+{
+    let mut room = [0; 2 * FEW];
+    let digits = &mut room[..2 * bytes.len()];
+    hex::encode_to_slice(bytes, digits).unwrap();
+    line.put(digits)
+}
+
+/// Adds the digits of any number of bytes.
+fn put_hex_many(line: &mut Line, bytes: &[u8]) -> Result<(), NoMemory>
     ensures { OnOk result (line.new ≡ line.old ++ hex bytes.now) }
 {
     for byte in bytes {
