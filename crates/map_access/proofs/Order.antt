@@ -15,14 +15,14 @@ use Rattle.journal_model.specs.scripts.MarkRules.{is_above, are_in_order, have_m
 use Rattle.map_access.specs.Parts.{IsPart, is_before, is_up_to, is_within}
 use Rattle.map_access.proofs.Accesses.{drop_at}
 
-both : (a b : Bool) → (a && b) ≡ true → (a ≡ true) × (b ≡ true)
+pub both : (a b : Bool) → (a && b) ≡ true → (a ≡ true) × (b ≡ true)
 both true true h = (refl, refl)
 both true false h = absurd cc
 both false b h = absurd cc
 
 -- ---- the order of a part
 
-tail_order : (m : Mark) (ms : List Mark) → are_in_order (m ∷ ms) ≡ true → are_in_order ms ≡ true
+pub tail_order : (m : Mark) (ms : List Mark) → are_in_order (m ∷ ms) ≡ true → are_in_order ms ≡ true
 tail_order m [] h = refl
 tail_order m (k ∷ ms) h = (both (is_above m k) (are_in_order (k ∷ ms)) h).1
 
@@ -83,7 +83,7 @@ parted_up_to thread n ms o = partitioned (is_up_to thread n) (above_up_to thread
 
 -- ---- none among those that are cut off
 
-or_false : (a b : Bool) → a ≡ false → b ≡ false → (a || b) ≡ false
+pub or_false : (a b : Bool) → a ≡ false → b ≡ false → (a || b) ≡ false
 or_false false false h k = refl
 or_false true b h k = absurd cc
 or_false false true h k = absurd cc
@@ -113,7 +113,7 @@ taken_dropped (suc i) (m ∷ ms) = ap (λ xs. m ∷ xs) (taken_dropped i ms)
 before_not_within : (thread first last : ℕ) (m : Mark) → is_before thread first m ≡ true → is_within thread first last m ≡ false
 before_not_within thread first last m h = grind (arith, nat_tests, h)
 
-past_not_within : (thread first last : ℕ) (m : Mark) → is_up_to thread last m ≡ false → is_within thread first last m ≡ false
+pub past_not_within : (thread first last : ℕ) (m : Mark) → is_up_to thread last m ≡ false → is_within thread first last m ≡ false
 past_not_within thread first last m h = grind (arith, nat_tests, h)
 
 -- those from one on, all of them

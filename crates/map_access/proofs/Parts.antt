@@ -1,5 +1,5 @@
 -- What a part of the marks says of all of them.
-use Rattle.std.proofs.Common.{◌≡◌, ℕ, ◌+◌, Bool, true, false, cond, List, [], ◌∷◌, ◌++◌, Option, Some, None, refl, sym, ap, ◌∙◌, inl, inr, arith}
+use Rattle.std.proofs.Common.{◌≡◌, ℕ, Bool, true, false, cond, List, [], ◌∷◌, ◌++◌, Option, Some, None, refl, sym, ap, ◌∙◌, inl, inr, arith}
 use Rattle.std.specs.Prelude.{◌==◌, ◌&&◌, ◌||◌, not, nat_le, find, fold, option_map}
 use Rattle.std.specs.List.{list_any}
 use Rattle.std.proofs.lemmas.Bool.{cases_Bool, eqb-true}
@@ -22,7 +22,7 @@ either false false h = (refl, refl)
 -- ---- a step that changes nothing for other marks
 
 module _ {X : Type 0} (f : X → Mark → X) (w : Mark → Bool) (same : (x : X) (m : Mark) → w m ≡ false → f x m ≡ x) where
-  fold_none : (x : X) (ms : List Mark) → list_any w ms ≡ false → fold f x ms ≡ x
+  pub fold_none : (x : X) (ms : List Mark) → list_any w ms ≡ false → fold f x ms ≡ x
   fold_none x [] h = refl
   fold_none x (m ∷ ms) h =
       let parts = either (w m) (list_any w ms) h in
@@ -115,7 +115,7 @@ module _ (thread n : ℕ) (a : Access) where
       by true k = grind (arith, nat_tests, h, k)
       by false k = grind (arith, nat_tests, h, k)
 
-  not_ended : (b : BufId) (ms : List Mark) → list_any (is_within thread 0 n) ms ≡ false → has_ended_by (end_of thread b ms) n ≡ false
+  pub not_ended : (b : BufId) (ms : List Mark) → list_any (is_within thread 0 n) ms ≡ false → has_ended_by (end_of thread b ms) n ≡ false
   not_ended b [] h = refl
   not_ended b (m ∷ ms) h =
       let parts = either (is_within thread 0 n m) (list_any (is_within thread 0 n) ms) h in

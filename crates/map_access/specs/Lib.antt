@@ -1,2 +1,4 @@
 pub mod Accesses
+pub mod Known
 pub mod Parts
+pub mod Passing

@@ -1,6 +1,7 @@
 //! Which entries are results of peeks and pokes, and the mappings through which they go.
-ghost use Rattle.std.specs.Prelude.{◌≡◌, ◌+◌, ◌/◌, ◌<◌, find, option_copied, option_map, slice_get};
+ghost use Rattle.std.specs.Prelude.{◌≡◌, Some, ◌+◌, ◌/◌, ◌<◌, find, option_copied, option_map, slice_get};
 ghost use Rattle.std.specs.List.{list_any};
+ghost use Rattle.std.specs.Option.{is_some};
 ghost use Rattle.journal_model.specs.rules.Commands.{commands_of};
 ghost use Rattle.journal_model.specs.statements.Complete as complete;
 ghost use Rattle.journal_model.specs.marks.Marks as marks;
@@ -180,9 +181,23 @@ fn first_through(marks: &[Mark], thread: u64, n: u64, b: BufId) -> Option<u64>
     None
 }
 
-/// Returns after how many commands the mapping stands through which the command that follows `n` others goes, or None where there is no mapping.
+/// Returns after how many commands the mapping stands through which the command that follows `n` others goes, or None where there is no mapping. Takes
+/// the time of a walk of the marks of the thread above it, or of all marks where these don't stand in order.
 pub fn mapped_from(search: &MarkSearch, thread: u64, n: u64, b: BufId) -> Option<u64>
     ensures { result ≡ mapped_from search.now thread n b }
 {
     first_through(search.part(thread, 0, n), thread, n, b)
+}
+
+/// Returns whether a mapping stands through which the command of `thread` that follows `n` others goes, a peek or poke of buffer `b`. Takes constant
+/// time if the script is known to keep the rules of scripts, by which one always does, or else that of `mapped_from`.
+#[tactic(auto, using(crate::proofs::Peeks::peek_is_mapped))]
+pub fn has_mapping(search: &MarkSearch, thread: u64, n: u64, b: BufId) -> bool
+    requires { option_map (λ a. a.b) (words.peek_or_poke search.now thread n) ≡ Some b }
+    ensures { result ≡ is_some (mapped_from search.now thread n b) }
+{
+    if search.keeps_rules() {
+        return true;
+    }
+    mapped_from(search, thread, n, b).is_some()
 }

@@ -3,6 +3,8 @@
 
 mod access;
 mod search;
+mod standing;
 
-pub use access::{Access, access_in, is_by_thread, mapped_from};
+pub use access::{Access, access_in, has_mapping, is_by_thread, mapped_from};
 pub use search::MarkSearch;
+pub use standing::Standing;

@@ -87,18 +87,20 @@ pub struct MarkSearch<'a> {
     script: &'a Script,
     /// Whether the marks are known to stand in order.
     in_order: bool,
+    /// Whether the script is known to keep the rules of scripts.
+    keeps_rules: bool,
 }
 
 impl<'a> Model for MarkSearch<'a> {
-    ghost use Rattle.std.specs.Prelude.{◌≡◌, true};
-    ghost use Rattle.journal_model.specs.scripts.MarkRules.{are_in_order};
     ghost use Rattle.journal_model.specs.declared.script.Script.{Script};
 
     ghost Value = { Script };
 
     ghost view = { λ s. s.script.now };
 
-    ghost invariant = { λ s. s.in_order ≡ true → are_in_order s.script.now.marks ≡ true };
+    ghost use Rattle.map_access.specs.Known.{IsKnown};
+
+    ghost invariant = { λ s. IsKnown s.in_order s.keeps_rules s.script.now };
 }
 
 impl<'a> MarkSearch<'a> {
@@ -109,6 +111,7 @@ impl<'a> MarkSearch<'a> {
         MarkSearch {
             script,
             in_order: are_in_order(script.marks.items()),
+            keeps_rules: false,
         }
     }
 
@@ -121,7 +124,22 @@ impl<'a> MarkSearch<'a> {
         MarkSearch {
             script,
             in_order: true,
+            keeps_rules: true,
         }
+    }
+
+    /// Returns whether the marks are known to stand in order.
+    pub(crate) fn is_in_order(&self) -> bool
+        ensures { result ≡ true → rules.are_in_order self.now.marks ≡ true }
+    {
+        self.in_order
+    }
+
+    /// Returns whether the script is known to keep the rules of scripts.
+    pub(crate) fn keeps_rules(&self) -> bool
+        ensures { result ≡ true → is_script self.now ≡ true }
+    {
+        self.keeps_rules
     }
 
     /// Returns the script.

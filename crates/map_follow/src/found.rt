@@ -4,7 +4,7 @@ ghost use Rattle.map_follow.specs.Follows as follows;
 ghost use Rattle.map_follow.specs.Founds as words;
 
 use journal_model::{Entry, Kind};
-use map_access::{Access, MarkSearch, access_in, mapped_from};
+use map_access::{Access, MarkSearch, access_in, has_mapping};
 use state_words::page_at;
 use ttm_base::{Actor, Loc, Mem, PagePlace, Span};
 
@@ -26,7 +26,7 @@ pub fn answerer(entry: &Entry) -> Option<u32>
 }
 
 /// Returns the pages that the access of `entry` finds, if the entry is the result of a peek or poke. Its thread has answered `answered` commands
-/// before.
+/// before. Takes the time of a search by halves and of the marks at the command, if the script is known to keep the rules of scripts.
 pub fn found_by(search: &MarkSearch, answered: u64, entry: &Entry) -> Option<Found>
     ensures { result ≡ words.found_by search.now answered entry.now }
 {
@@ -34,8 +34,11 @@ pub fn found_by(search: &MarkSearch, answered: u64, entry: &Entry) -> Option<Fou
         return None;
     };
     let pages = access_in(search, u64::from(thread), answered, entry)?;
-    mapped_from(search, u64::from(thread), answered, pages.b)?;
-    Some(Found { thread, pages })
+    if has_mapping(search, u64::from(thread), answered, pages.b) {
+        Some(Found { thread, pages })
+    } else {
+        None
+    }
 }
 
 /// Returns how a page with the place `place` is named: by its frame, or None where it has none.

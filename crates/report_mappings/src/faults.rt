@@ -8,12 +8,13 @@ ghost use Rattle.journal_model.specs.marks.Marks as marks;
 ghost use Rattle.journal_model.specs.reports.ReportText.{faults_line, maps_part, thread_faults};
 ghost use Rattle.journal_model.specs.scripts.Words.{numbers_word};
 ghost use Rattle.text_line.specs.Spaced.{behind_each};
+ghost use Rattle.map_access.specs.Passing.{Stands};
 ghost use Rattle.report_mappings.specs.Faults as words;
 ghost use Rattle.report_mappings.specs.Faults.{IsLegalIfMapped, access_in, faults_in, faults_text, mapped_from, paged, seen_after};
 
 use crate::seen::{Seen, leave, meet_pages, seen_at};
 use journal_model::{Entry, Kind, MarkKind, Script};
-use map_access::{Access, MarkSearch, access_in, is_by_thread, mapped_from};
+use map_access::{Access, MarkSearch, Standing, access_in, is_by_thread};
 use std::alloc::Global;
 use text_line::{Line, put_numbered};
 use ttm_base::{ItemList, NoMemory};
@@ -82,18 +83,20 @@ fn put_line(line: &mut Line, thread: u64, n: u64, faults: &[u64]) -> Result<(), 
     line.end_line()
 }
 
-/// Puts the faults of an entry of the thread, which has answered `n` commands, into `line`, and makes the changes that the entry makes to
-/// the entries of its mappings.
+/// Puts the faults of an entry of the thread, which has answered `n` commands and has the mappings `standing`, into `line`, and makes the changes
+/// that the entry makes to the entries of its mappings.
 fn put_entry(
     line: &mut Line,
     alloc: Global,
     search: &MarkSearch,
     thread: u64,
     n: u64,
+    standing: &Standing,
     seen: &mut Seen,
     entry: &Entry,
 ) -> Result<(), NoMemory>
-    requires { n < 18446744073709551615 }
+    requires few { n < 18446744073709551615 }
+    requires standing { Stands search.now thread n standing.now }
     ensures text { OnOk result (line.new ≡ line.old ++ faults_text search.now thread n seen.old (option_map paged (access_in search.now thread n entry.now))) }
     ensures seen { OnOk result ((c i : ℕ) → words.seen_at seen.new c i ≡ seen_after (option_map paged (access_in search.now thread n entry.now)) n entry.now.kind c i (words.seen_at seen.old c i)) }
 {
@@ -103,7 +106,7 @@ fn put_entry(
             Ok(())
         }
         Some(access) => {
-            let from = mapped_from(search, thread, n, access.b);
+            let from = standing.mapped_from(search, thread, n, access.b);
             let faults = faults_in(alloc, seen, from, access)?;
             put_line(line, thread, n, faults.items())?;
             meet_pages(seen, alloc, access, n + 1)
@@ -130,10 +133,14 @@ fn put_thread_faults(
     ensures { OnOk result (IsLegal search.now journal.now → line.new ≡ line.old ++ thread_faults search.now thread [] (made_of search.now journal.now)) }
 {
     let mut seen = Seen::new(alloc);
+    let mut standing = Standing::new(alloc, search, thread)?;
     let mut answered = 0;
     for entry in journal {
-        put_entry(line, alloc, search, thread, answered, &mut seen, entry)?;
+        put_entry(
+            line, alloc, search, thread, answered, &standing, &mut seen, entry,
+        )?;
         if answers(thread, entry) {
+            standing.go_on(search, thread, answered)?;
             answered += 1;
         }
     }
@@ -170,8 +177,9 @@ pub fn has_map(script: &Script) -> bool
 }
 
 /// Puts the report's part on mappings by the CPU into `line`, which is empty where no line maps a buffer. Of a journal that isn't legal it
-/// puts some text. It walks the marks once, and passes over the journal once for each thread; each of the thread's peeks and pokes costs a search by
-/// halves among the marks and a walk of those of the thread above it, or of all marks where these don't stand in order.
+/// puts some text. It walks the marks once, and passes over the journal once for each thread; each of the thread's answers costs searches by halves
+/// among the marks and the time of the lines at the command, or a walk of all marks where these don't stand in order. Its memory is in proportion to
+/// the pages that were met and to the buffers that are mapped.
 pub fn put_maps(
     line: &mut Line,
     alloc: Global,
