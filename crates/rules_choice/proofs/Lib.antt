@@ -1,7 +1,9 @@
 pub mod FitLaws
-pub mod RunLaws
 pub mod OrderLaws
 pub mod StartLaws
 pub mod NestLaws
+pub mod AlikeLaws
+pub mod TurnLaws
+pub mod ScanLaws
 pub mod BuddyLaws
 pub mod BelowLaws

@@ -30,14 +30,14 @@ same_at x y j o h e =
     let d : j + (o - j) ≡ o = omega arith in
     rw d at (same_above x y j (o - j) e)
 
-block_pages : (p o q : ℕ) → p / 2 ^ o ≡ q → (q * 2 ^ o ≤ p) × (p < q * 2 ^ o + 2 ^ o)
+pub block_pages : (p o q : ℕ) → p / 2 ^ o ≡ q → (q * 2 ^ o ≤ p) × (p < q * 2 ^ o + 2 ^ o)
 block_pages p o q e =
     let l = div-mul-le_self p (2 ^ o) in
     let u = lt-div-mul-add {a = p} (pow_pos o) in
     let m = ap (λ x. x * 2 ^ o) e in
     (omega arith, omega arith)
 
-in_block : (p o q : ℕ) → q * 2 ^ o ≤ p → p < q * 2 ^ o + 2 ^ o → p / 2 ^ o ≡ q
+pub in_block : (p o q : ℕ) → q * 2 ^ o ≤ p → p < q * 2 ^ o + 2 ^ o → p / 2 ^ o ≡ q
 in_block p o q l u =
     let d : p ≡ q * 2 ^ o + (p - q * 2 ^ o) = omega arith in
     ap (λ n. n / 2 ^ o) d ∙ div-mul-add q (2 ^ o) (p - q * 2 ^ o) (omega arith)
@@ -62,11 +62,11 @@ block_end i k o q h e =
 
 -- ---- the blocks inside a free block
 
-all_true : (test : ℕ → Bool) (n start : ℕ) → ((x : ℕ) → start ≤ x → x < start + n → test x ≡ true) → list_all test (count_from 1 n start) ≡ true
+pub all_true : (test : ℕ → Bool) (n start : ℕ) → ((x : ℕ) → start ≤ x → x < start + n → test x ≡ true) → list_all test (count_from 1 n start) ≡ true
 all_true test zero start h = refl
 all_true test (suc n) start h = and_from (test start) (list_all test (count_from 1 n (1 + start))) (h start (omega arith) (omega arith)) (all_true test n (1 + start) (λ x l u. h x (omega arith) (omega arith)))
 
-each_true : (test : ℕ → Bool) (n start : ℕ) → list_all test (count_from 1 n start) ≡ true → (x : ℕ) → start ≤ x → x < start + n → test x ≡ true
+pub each_true : (test : ℕ → Bool) (n start : ℕ) → list_all test (count_from 1 n start) ≡ true → (x : ℕ) → start ≤ x → x < start + n → test x ≡ true
 each_true test zero start h x l u = absurd (omega arith)
 each_true test (suc n) start h x l u =
     let p = and_parts (test start) (list_all test (count_from 1 n (1 + start))) h in
@@ -75,17 +75,17 @@ each_true test (suc n) start h x l u =
       | inr ne ↦ each_true test n (1 + start) p.1 x (omega arith) (omega arith)
     ]
 
-free_from : (f : ℕ → Bool) (size k p : ℕ) → p / 2 ^ k * 2 ^ k + 2 ^ k ≤ size → ((x : ℕ) → x / 2 ^ k ≡ p / 2 ^ k → f x ≡ true) → is_free_block f size (block_around k p) ≡ true
+pub free_from : (f : ℕ → Bool) (size k p : ℕ) → p / 2 ^ k * 2 ^ k + 2 ^ k ≤ size → ((x : ℕ) → x / 2 ^ k ≡ p / 2 ^ k → f x ≡ true) → is_free_block f size (block_around k p) ≡ true
 free_from f size k p e h =
     let start : ℕ = p / 2 ^ k * 2 ^ k in
     and_from (nat_le (start + 2 ^ k) size) (list_all f (count_from 1 (start + 2 ^ k - start) start)) (le-leb (start + 2 ^ k) size e)
     (all_true f (start + 2 ^ k - start) start (λ x l u. h x (in_block x k (p / 2 ^ k) l (omega arith))))
 
-record AreFree (f : ℕ → Bool) (size k p : ℕ) : Type 0 where
+pub record AreFree (f : ℕ → Bool) (size k p : ℕ) : Type 0 where
   pub end : p / 2 ^ k * 2 ^ k + 2 ^ k ≤ size
   pub free : (x : ℕ) → x / 2 ^ k ≡ p / 2 ^ k → f x ≡ true
 
-free_parts : (f : ℕ → Bool) (size k p : ℕ) → is_free_block f size (block_around k p) ≡ true → AreFree f size k p
+pub free_parts : (f : ℕ → Bool) (size k p : ℕ) → is_free_block f size (block_around k p) ≡ true → AreFree f size k p
 free_parts f size k p h =
     let start : ℕ = p / 2 ^ k * 2 ^ k in
     let a = and_parts (nat_le (start + 2 ^ k) size) (list_all f (count_from 1 (start + 2 ^ k - start) start)) h in
@@ -97,7 +97,7 @@ free_parts f size k p h =
 own_start : (p k : ℕ) → (p / 2 ^ k * 2 ^ k) / 2 ^ k ≡ p / 2 ^ k
 own_start p k = mul-div_cancel (p / 2 ^ k) (pow_pos k)
 
-smaller_free : (f : ℕ → Bool) (size i j p : ℕ) → i ≤ j → is_free_block f size (block_around j p) ≡ true → is_free_block f size (block_around i p) ≡ true
+pub smaller_free : (f : ℕ → Bool) (size i j p : ℕ) → i ≤ j → is_free_block f size (block_around j p) ≡ true → is_free_block f size (block_around i p) ≡ true
 smaller_free f size i j p h t =
     let a = free_parts f size j p t in
     let e = block_end (p / 2 ^ i) i j (p / 2 ^ j) h (same_at (p / 2 ^ i * 2 ^ i) p i j h (own_start p i)) in
@@ -114,7 +114,7 @@ reaches f size page j k (suc left) l u t = elim (cases_lt k j) [
   | inr least ↦ let above = free_order_above f size page k (suc left) in omega (arith, above, least)
 ]
 
-around_same : (p q j : ℕ) → p / 2 ^ j ≡ q / 2 ^ j → block_around j p ≡ block_around j q
+pub around_same : (p q j : ℕ) → p / 2 ^ j ≡ q / 2 ^ j → block_around j p ≡ block_around j q
 around_same p q j e = ap (λ n. let s : Span = record { start = n * 2 ^ j; end = n * 2 ^ j + 2 ^ j } in s) e
 
 -- what a candidate is split from

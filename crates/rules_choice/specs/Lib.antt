@@ -2,3 +2,4 @@ pub mod Least
 pub mod Marks
 pub mod Fits
 pub mod Candidates
+pub mod Settled

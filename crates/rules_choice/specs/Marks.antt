@@ -1,5 +1,5 @@
--- A mark for each page of a manager, and how many marked pages stand right before each page.
-use Rattle.std.specs.Prelude.{◌≡◌, ℕ, ◌+◌, ◌<◌, Bool, false, List, length, slice_index, slice_index_or, ◌&&◌, not, if◌then◌else◌}
+-- A mark for each page of a manager.
+use Rattle.std.specs.Prelude.{◌≡◌, ℕ, ◌+◌, ◌*◌, ◌/◌, ◌^◌, ◌<◌, ◌≤◌, Bool, false, List, length, slice_index_or, ◌&&◌, not}
 use Rattle.ttm_base.specs.declared.Span.{Span}
 use Rattle.ttm_base.specs.Holes.{has_page}
 
@@ -12,18 +12,16 @@ pub record IsMarked (test : ℕ → Bool) (size : ℕ) (marks : List Bool) : Typ
   pub len : length marks ≡ size
   pub same : (page : ℕ) → page < size → marked marks page ≡ test page
 
--- the runs tell of each page, and of the end, how many marked pages stand right before it
-pub record AreRuns (marks : List Bool) (runs : List ℕ) : Type 0 where
-  pub len : length runs ≡ length marks + 1
-  pub first : slice_index runs 0 ≡ 0
-  pub next : (page : ℕ) → page < length marks → slice_index runs (page + 1) ≡ (if marked marks page then slice_index runs page + 1 else 0)
+-- the mark of a page between two is not this one
+pub record IsOther (marks : List Bool) (mark : Bool) (start end page : ℕ) : Type 0 where
+  pub from : start ≤ page
+  pub to : page < end
+  pub other : marked marks page ≡ not mark
 
--- the runs tell so of each page but of those right after the pages of a span
-pub record AreRunsBeside (marks : List Bool) (span : Span) (runs : List ℕ) : Type 0 where
-  pub len : length runs ≡ length marks + 1
-  pub first : slice_index runs 0 ≡ 0
-  pub next : (page : ℕ) → page < length marks → has_page page span ≡ false
-      → slice_index runs (page + 1) ≡ (if marked marks page then slice_index runs page + 1 else 0)
+-- the block of an order around a page ends within the marks, and all its pages have the mark of that page
+pub record AreAlike (marks : List Bool) (order page : ℕ) : Type 0 where
+  pub end : page / 2 ^ order * 2 ^ order + 2 ^ order ≤ length marks
+  pub same : (x : ℕ) → x / 2 ^ order ≡ page / 2 ^ order → marked marks x ≡ marked marks page
 
 -- the marks without those of a span's pages
 pub record IsWithout (marks : List Bool) (span : Span) (rest : List Bool) : Type 0 where

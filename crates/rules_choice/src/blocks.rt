@@ -1,16 +1,14 @@
-ghost use Rattle.std.specs.Prelude.{◌≡◌, ◌+◌, ◌-◌, ◌*◌, ◌/◌, ◌<◌, ◌≤◌, ◌^◌, IfOk, IfSome, Some, length, option_map};
+ghost use Rattle.std.specs.Prelude.{◌≡◌, ◌+◌, ◌*◌, ◌/◌, ◌<◌, ◌≤◌, ◌^◌, true, length};
 ghost use Rattle.ttm_base.specs.BuddyChoice as words;
-ghost use Rattle.rules_choice.specs.Marks.{marked, AreRuns, AreRunsBeside};
+ghost use Rattle.rules_choice.specs.Marks.{marked, AreAlike};
 
-use std::alloc::Global;
-use ttm_base::{NoMemory, Span, log2};
+use crate::alike::first_other;
+use ttm_base::{Span, log2};
 
-/// The free pages of a manager, and for each page, and for the end, the number of free pages right before it.
+/// The free pages of a manager: a mark for each page, set where it is free.
 #[derive(Drop)]
 pub struct FreePages {
     pub marks: Vec<bool>,
-    pub runs: Vec<u32>,
-    ghost counted: { AreRuns marks.items runs.items },
     ghost small: { length marks.items < 2 ^ 32 },
 }
 
@@ -20,46 +18,6 @@ pub struct FreeBlock {
     pub block: Span,
     pub whole: u32,
     ghost small: { whole < 64 },
-}
-
-/// Counts for each page, and for the end, the marked pages that stand right before it.
-fn runs_of(alloc: Global, marks: &[bool]) -> Result<Vec<u32>, NoMemory>
-    requires { length marks.now < 2 ^ 32 }
-    ensures { IfOk result (λ runs. AreRuns marks.now runs.items) }
-{
-    let mut runs = Vec::new(alloc);
-    let mut run = 0;
-    runs.push(run)?;
-    for mark in marks {
-        run = if *mark { run + 1 } else { 0 };
-        runs.push(run)?;
-    }
-    Ok(runs)
-}
-
-/// Counts the free pages right before each page for `marks`, which are set for the free pages.
-pub fn counted(alloc: Global, marks: Vec<bool>) -> Result<FreePages, NoMemory>
-    requires { length marks.items < 2 ^ 32 }
-    ensures { IfOk result (λ free. free.marks.items ≡ marks.items) }
-{
-    let runs = runs_of(alloc, &marks)?;
-    Ok(FreePages { marks, runs })
-}
-
-/// Counts the marked pages right before each page from `span` on, whose marks changed, as far as that changes anything.
-pub fn count_anew(marks: &[bool], runs: &mut [u32], span: Span)
-    requires small { length marks.now < 2 ^ 32 }
-    requires beside { AreRunsBeside marks.now span runs.old }
-    ensures { AreRuns marks.now runs.new }
-{
-    let start = (span.start as usize).min(marks.len());
-    for page in start..marks.len() {
-        let run = if marks[page] { runs[page] + 1 } else { 0 };
-        if page >= span.end as usize && runs[page + 1] == run {
-            return;
-        }
-        runs[page + 1] = run;
-    }
 }
 
 /// Returns the number of pages of a block of order `order`.
@@ -82,7 +40,7 @@ impl FreePages {
         let len = block_len(order);
         let start = page / len * len;
         let end = start + len;
-        end < self.runs.len() && self.runs[end] as usize >= len
+        end <= self.marks.len() && first_other(&self.marks, true, start, end).is_none()
     }
 
     /// Returns the order of the largest free block around the free block of order `order` around `page`.
@@ -95,6 +53,35 @@ impl FreePages {
         let mut whole = order;
         let mut left = log2(self.marks.len() as u32);
         while left > 0 && self.is_free_block(whole + 1, page) {
+            whole += 1;
+            left -= 1;
+        }
+        whole
+    }
+
+    /// Returns whether all pages of the block of order `order` around `page` are free, or all held, and it ends within the size.
+    fn is_alike(&self, order: u32, page: usize) -> bool
+        requires order { order < 64 }
+        requires page { page < length self.now.marks.items }
+        ensures { result ≡ true → AreAlike self.now.marks.items order page }
+    {
+        let len = block_len(order);
+        let start = page / len * len;
+        let end = start + len;
+        end <= self.marks.len() && first_other(&self.marks, self.marks[page], start, end).is_none()
+    }
+
+    /// Returns the order of the largest block around `page` whose pages are all free or all held, at least `order`.
+    pub fn alike_order(&self, order: u32, page: usize) -> u32
+        requires order { order ≤ 32 }
+        requires page { page < length self.now.marks.items }
+        ensures least { order ≤ result }
+        ensures small { result < 64 }
+        ensures alike { order < result → AreAlike self.now.marks.items result page }
+    {
+        let mut whole = order;
+        let mut left = log2(self.marks.len() as u32);
+        while left > 0 && self.is_alike(whole + 1, page) {
             whole += 1;
             left -= 1;
         }

@@ -2,7 +2,7 @@ ghost use Rattle.std.specs.Prelude.{◌≡◌, ◌+◌, ◌<◌, ◌≤◌, ◌^
 ghost use Rattle.ttm_base.specs.BuddyChoice as words;
 ghost use Rattle.rules_choice.specs.Marks.{marked, IsWithout};
 
-use crate::blocks::{FreePages, count_anew, counted};
+use crate::blocks::FreePages;
 use crate::candidates::{candidate, first_candidate};
 use crate::pages::take_span;
 use place_list::spans::length_of;
@@ -13,13 +13,9 @@ use ttm_base::{NoMemory, Span, Spans, log2, order_of};
 fn without(free: FreePages, block: Span) -> FreePages
     ensures { IsWithout free.marks.items block result.marks.items }
 {
-    let FreePages {
-        mut marks,
-        mut runs,
-    } = free;
+    let FreePages { mut marks } = free;
     take_span(&mut marks, block);
-    count_anew(&marks, &mut runs, block);
-    FreePages { marks, runs }
+    FreePages { marks }
 }
 
 /// Takes block after block until no page is left of `pages`, each as large as can be. Returns `None` if there are too few blocks.
@@ -86,7 +82,7 @@ pub fn buddy_choice(
     requires { length marks.items < 2 ^ 32 }
     ensures { IfOk result (λ found. found ≡ words.buddy_choice (marked marks.items) (length marks.items) range topdown contig pages) }
 {
-    let free = counted(alloc, marks)?;
+    let free = FreePages { marks };
     if contig {
         contiguous(alloc, &free, range, topdown, pages)
     } else {

@@ -1,11 +1,13 @@
-ghost use Rattle.std.specs.Prelude.{◌≡◌, ◌+◌, ◌-◌, ◌*◌, ◌/◌, ◌<◌, ◌≤◌, ◌^◌, Some, length, option_map, slice_index};
+ghost use Rattle.std.specs.Prelude.{◌≡◌, ◌+◌, ◌*◌, ◌/◌, ◌<◌, ◌≤◌, ◌^◌, Some, length, option_map};
 ghost use Rattle.ttm_base.specs.BuddyChoice as words;
-ghost use Rattle.ttm_base.specs.BlockStarts.{starts_of, candidate_at};
+ghost use Rattle.ttm_base.specs.BlockStarts.{candidate_at};
 ghost use Rattle.rules_choice.specs.Marks.{marked};
 ghost use Rattle.rules_choice.specs.Least.{best_with, has_key, lesser_by};
 ghost use Rattle.rules_choice.specs.Candidates.{candidate_of};
+ghost use Rattle.rules_choice.specs.Settled.{IsSettled};
 
 use crate::blocks::{FreeBlock, FreePages, block_len};
+use crate::turns::{blocks_left, end_inside, first_inside, start_at};
 use place_list::spans::is_inside;
 use ttm_base::Span;
 
@@ -44,30 +46,6 @@ fn lesser(best: Option<FreeBlock>, next: FreeBlock) -> FreeBlock
     }
 }
 
-/// Counts the blocks of order `order` among `size` pages.
-fn blocks_of(order: u32, size: usize) -> usize
-    requires { order ≤ 32 }
-    ensures { result ≡ size / 2 ^ order }
-{
-    size / block_len(order)
-}
-
-/// Returns the start of the `i`-th block of order `order` that is looked at, from the top down for `topdown`.
-fn start_at(topdown: bool, order: u32, size: usize, i: usize) -> usize
-    requires order { order ≤ 32 }
-    requires size { size < 2 ^ 32 }
-    requires there { i < size / 2 ^ order }
-    ensures value { result ≡ slice_index (starts_of topdown order size) i }
-    ensures small { result < 2 ^ 32 }
-{
-    let block = if topdown {
-        blocks_of(order, size) - 1 - i
-    } else {
-        i
-    };
-    block * block_len(order)
-}
-
 /// Returns `best`, the candidate so far, or the block of order `order` at `start`, if it is a candidate and is split from a smaller block.
 /// Where the block around `start` of the order from which `best` is split is free, `best` stays.
 fn next_best(
@@ -102,20 +80,41 @@ fn is_whole(best: Option<FreeBlock>, order: u32) -> bool
     }
 }
 
+/// Returns the order of a block around `start` in which no block of order `order` is better than `best`, the candidate so far, if that at
+/// `start` isn't.
+fn settled_order(free: &FreePages, order: u32, start: usize, best: Option<FreeBlock>) -> u32
+    requires order { order ≤ 32 }
+    requires start { start < length free.now.marks.items }
+    ensures least { order ≤ result }
+    ensures small { result < 64 }
+    ensures settled { (range : Span) → IsSettled free.now.marks.items range order result start (option_map candidate_of best) }
+{
+    let alike = free.alike_order(order, start);
+    match best {
+        Some(least) if least.whole <= alike => alike,
+        _ if free.marks[start] => order,
+        _ => alike,
+    }
+}
+
 /// Returns a free block of order `order`, split from the smallest one: among equals the lowest, or for `topdown` the highest. `None` if
-/// there is none.
+/// there is none. It looks only at blocks inside `range`, and once at each larger block whose pages are all free or all held.
 pub fn candidate(free: &FreePages, range: Span, topdown: bool, order: u32) -> Option<FreeBlock>
     requires { order ≤ 32 }
     ensures { option_map candidate_of result ≡ words.candidate (marked free.now.marks.items) (length free.now.marks.items) range topdown order }
 {
     let size = free.marks.len();
+    let end = end_inside(range, topdown, order, size);
     let mut best = None;
-    for i in 0..blocks_of(order, size) {
+    let mut i = first_inside(range, topdown, order, size);
+    while i < end {
         let start = start_at(topdown, order, size, i);
         best = next_best(free, range, order, start, best);
         if is_whole(best, order) {
             return best;
         }
+        let settled = settled_order(free, order, start, best);
+        i += blocks_left(topdown, order, settled, start);
     }
     best
 }

@@ -2,11 +2,13 @@
 //! drm_buddy.
 #![tactic(auto)]
 
+mod alike;
 mod blocks;
 mod buddy;
 mod candidates;
 mod choices;
 mod pages;
 mod ranges;
+mod turns;
 
 pub use choices::choice;

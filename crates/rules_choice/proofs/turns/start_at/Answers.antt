@@ -1,8 +1,8 @@
 use Rattle.std.proofs.Common.{arith}
 use Rattle.std.proofs.lemmas.Grind.{common_steps}
 use Rattle.rules_choice.proofs.StartLaws.{lowest_first, highest_first}
-use Rattle.rules_choice.proofs.candidates.start_at.Goals as goal
-use Rattle.rules_choice.proofs.candidates.start_at.Goals.{then-topdown, else-topdown}
+use Rattle.rules_choice.proofs.turns.start_at.Goals as goal
+use Rattle.rules_choice.proofs.turns.start_at.Goals.{then-topdown, else-topdown}
 
 pub returns-clause-value : goal.returns-clause-value
 returns-clause-value c =
