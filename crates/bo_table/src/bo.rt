@@ -11,6 +11,7 @@ ghost use Rattle.bo_table.specs.Seen.{carried, reservation_of, IsDead, IsChanged
 
 use crate::page_table::PageTable;
 use journal_model::{Reservation, Targets};
+use place_list::PlacedSpans;
 use resv_object::Resv;
 use state_words::set_target;
 use std::alloc::Global;
@@ -28,18 +29,18 @@ fn no_targets() -> Targets
 }
 
 /// Makes `target` the place where the buffer stands; the target is then none.
-fn settle(spans: &mut Spans, target: &mut Option<Spans>)
+fn settle(spans: &mut PlacedSpans, target: &mut Option<Spans>)
     ensures place { spans.new ≡ unwrap_or target.old [] }
     ensures target { target.new ≡ None }
 {
     match target.take() {
-        Some(found) => *spans = found,
+        Some(found) => *spans = PlacedSpans::of(found),
         None => spans.clear(),
     }
 }
 
 /// Makes the target in the memory type `mem` the place where the buffer stands.
-fn settle_in(spans: &mut Spans, targets: &mut Targets, mem: Mem)
+fn settle_in(spans: &mut PlacedSpans, targets: &mut Targets, mem: Mem)
     ensures place { spans.new ≡ unwrap_or (target_of mem targets.old) [] }
     ensures targets { targets.new ≡ with_target mem None targets.old }
 {
@@ -65,7 +66,7 @@ pub struct Bo {
     /// The memory type in which the buffer stands.
     pub mem: Mem,
     /// The buffer's pages there; none in SYSTEM.
-    pub spans: Spans,
+    pub spans: PlacedSpans,
     /// A place for each of the buffer's pages.
     pub table: PageTable,
     /// The pages that were found for the buffer and that it hasn't gone to yet.
@@ -101,7 +102,7 @@ impl Bo {
         Ok(Bo {
             alive: false,
             mem: Mem::System,
-            spans: Spans::new(alloc),
+            spans: PlacedSpans::new(alloc),
             table,
             targets: no_targets(),
             pins: 0,

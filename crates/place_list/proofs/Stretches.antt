@@ -48,7 +48,8 @@ stretch_inside : (within : Span) (spans : List Span) → lies_in within (stretch
 stretch_inside within [] = refl
 stretch_inside within (s ∷ ss) = all_inside within s ss
 
-accepted : (mem : Mem) (spans : List Span) (size : ℕ) (places : List FlaggedPlace) → list_any (λ p. takes mem (stretch_of spans) (is_contiguous spans) size p.place) places ≡ compatible mem spans (record { list = places }) size
+-- some place accepts them as their stretch and whether they are contiguous tell
+pub accepted : (mem : Mem) (spans : List Span) (size : ℕ) (places : List FlaggedPlace) → list_any (λ p. takes mem (stretch_of spans) (is_contiguous spans) size p.place) places ≡ compatible mem spans (record { list = places }) size
 accepted mem spans size [] = refl
 accepted mem spans size (p ∷ ps) =
     ap₂ (λ x y. x || y)

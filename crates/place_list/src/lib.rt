@@ -1,5 +1,5 @@
 //! Tests of places: which pages of a manager a place reaches, whether a resource meets or fits them, and which places of a
-//! list are tried first or under pressure. Also a cursor over the pages of a resource. Placements are those of TTM
+//! list are tried first or under pressure. Also the spans of a resource with what places ask of them, and a cursor over its pages. Placements are those of TTM
 //! (ttm_placement since kernel 6.9), the cursor is that of drivers (xe_res_cursor). No call takes memory but `spans::add_page`.
 #![tactic(auto)]
 
@@ -10,10 +10,12 @@ ghost use Rattle.ttm_base.specs.Placement as rules;
 use ttm_base::{Mem, Place, Placement, Span, Spans};
 
 pub mod page_cursor;
+pub mod placed_spans;
 pub mod places;
 pub mod spans;
 
 pub use page_cursor::PageCursor;
+pub use placed_spans::PlacedSpans;
 
 /// Returns the pages that a place reaches in a manager of `size` pages, as the first page and the page after the last. Both
 /// are equal where the place reaches no page.

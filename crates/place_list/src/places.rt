@@ -20,7 +20,7 @@ fn takes(mem: Mem, stretch: Option<Span>, contiguous: bool, size: u32, place: Pl
 }
 
 /// Returns whether some place of the list accepts spans with this stretch, which are contiguous or not.
-fn is_taken(
+pub(crate) fn is_taken(
     mem: Mem,
     stretch: Option<Span>,
     contiguous: bool,

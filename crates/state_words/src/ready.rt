@@ -5,7 +5,6 @@ use crate::commands::declared_places;
 use crate::placement::size_of;
 use crate::standing::Standing;
 use journal_model::{Command, Script};
-use place_list::places::compatible;
 use place_list::spans::same_mem;
 use ttm_base::{BufId, Mem};
 
@@ -18,17 +17,11 @@ pub fn has_some_target<S: Standing>(standing: &S) -> bool
         || standing.has_target(Mem::Vram)
 }
 
-/// Returns whether buffer `b`, which is `standing`, stands where its declared placement lets it. Takes time by its spans and its places.
+/// Returns whether buffer `b`, which is `standing`, stands where its declared placement lets it.
 fn is_well_placed<S: Standing>(script: &Script, b: BufId, standing: &S) -> bool
     ensures { result ≡ words.is_well_placed script.now b (S.body standing.now) }
 {
-    let mem = standing.mem();
-    compatible(
-        mem,
-        standing.spans(),
-        declared_places(script, b),
-        size_of(script, mem),
-    )
+    standing.is_accepted(declared_places(script, b), size_of(script, standing.mem()))
 }
 
 /// Returns whether buffer `b`, which is `standing`, stands where `command` wants it.

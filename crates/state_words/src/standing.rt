@@ -3,11 +3,13 @@ ghost use Rattle.journal_model.specs.declared.state.Buffer.{Buffer as Body};
 ghost use Rattle.journal_model.specs.rules.Dry as dry;
 ghost use Rattle.journal_model.specs.rules.Ready as ready;
 ghost use Rattle.journal_model.specs.rules.State as state;
+ghost use Rattle.ttm_base.specs.Placement as placement;
 
 use crate::buffers::target_of;
 use crate::places::is_frame;
 use journal_model::Buffer;
-use ttm_base::{Mem, Span};
+use place_list::places::compatible;
+use ttm_base::{FlaggedPlace, Mem};
 
 /// A buffer as it stands, however its state is held.
 pub trait Standing {
@@ -18,9 +20,9 @@ pub trait Standing {
     fn mem(&self) -> Mem
         ensures { result ≡ (body self.now).mem };
 
-    /// Returns the pages of the buffer there.
-    fn spans(&self) -> &[Span]
-        ensures { result.now ≡ (body self.now).spans };
+    /// Returns whether some place of the list accepts the buffer where it stands, in a memory type of `size` pages.
+    fn is_accepted(&self, places: &[FlaggedPlace], size: u32) -> bool
+        ensures { result ≡ placement.compatible (body self.now).mem (body self.now).spans (record { list = places.now }) size };
 
     /// Returns whether the buffer has a target in the memory type `mem`.
     fn has_target(&self, mem: Mem) -> bool
@@ -42,8 +44,8 @@ impl Standing for Buffer {
         self.mem
     }
 
-    fn spans(&self) -> &[Span] {
-        self.spans.items()
+    fn is_accepted(&self, places: &[FlaggedPlace], size: u32) -> bool {
+        compatible(self.mem, self.spans.items(), places, size)
     }
 
     fn has_target(&self, mem: Mem) -> bool {
