@@ -35,8 +35,8 @@ use Rattle.laws.proofs.law_state.Shown.{legal_step}
 use Rattle.laws.specs.law_jobs.JobLines.{done_of as done_among, numbers_of, unfinished_of}
 use Rattle.laws.proofs.law_jobs.Law.{line_law}
 use Rattle.room_representation.specs.Lines.{AreInLine, IsTimeline}
-use Rattle.room_representation.proofs.lemma_room_jobs.Heads.{IsEnd, end_of}
-use Rattle.room_representation.proofs.lemma_room_jobs.Changed.{done_elsewhere, done_end, ended, ends_keep}
+use Rattle.room_representation.proofs.lemma_jobs.Heads.{IsEnd, end_of}
+use Rattle.room_representation.proofs.lemma_jobs.Changed.{done_elsewhere, done_end, ended, ends_keep}
 use Rattle.device_core.specs.Done.{done_by, done_of, number_done}
 
 -- how many jobs of a context are done
@@ -214,16 +214,16 @@ module _ (script : Script) (fits : IsTrue (is_script script)) (ctx : ℕ) where
   done_law journal legal = along [] journal tt legal refl
 
   -- the timeline tells it
-  pub reached_is : (journal : List Entry) → IsLegal script journal → (line : List Progress) → IsTimeline (state_of script journal).core.jobs (state_of script journal).last_jobs line → ctx < length line →
-      (progress_of line ctx).done ≡ done_of journal ctx
-  reached_is journal legal line h known =
+  pub reached_is : (journal : List Entry) → IsLegal script journal → (timeline : List Progress) → IsTimeline (state_of script journal).core.jobs (state_of script journal).last_jobs timeline → ctx < length timeline →
+      (progress_of timeline ctx).done ≡ done_of journal ctx
+  reached_is journal legal timeline h known =
       let same = h.contexts in
       ap (λ (p : Progress). p.done) (h.each ctx (omega (arith, same, known))) ∙ done_law journal legal
 
   -- of a context that isn't there nothing is done
-  pub reached_none : (journal : List Entry) → IsLegal script journal → (line : List Progress) → IsTimeline (state_of script journal).core.jobs (state_of script journal).last_jobs line → length line ≤ ctx →
+  pub reached_none : (journal : List Entry) → IsLegal script journal → (timeline : List Progress) → IsTimeline (state_of script journal).core.jobs (state_of script journal).last_jobs timeline → length timeline ≤ ctx →
       0 ≡ done_of journal ctx
-  reached_none journal legal line h beyond =
+  reached_none journal legal timeline h beyond =
       let same = h.contexts in
       let row = rows_of journal legal ctx in
       let within = row.within in

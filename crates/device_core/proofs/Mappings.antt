@@ -18,9 +18,9 @@ use Rattle.map_follow.specs.Follows.{Follows, standing}
 use Rattle.map_follow.specs.Laws.{areas_after}
 use Rattle.map_follow.proofs.Law.{entries_followed}
 use Rattle.map_follow.proofs.Standing.{found_passes, through_is}
-use Rattle.room_state.specs.declared.room_turns.Step.{Step}
-use Rattle.room_state.specs.declared.room_turns.Step.TheVariants as step
-use Rattle.room_state.specs.room_turns.Turns.{step_of}
+use Rattle.room_state.specs.declared.turns.Step.{Step}
+use Rattle.room_state.specs.declared.turns.Step.TheVariants as step
+use Rattle.room_state.specs.turns.Turns.{step_of}
 use Rattle.device_core.specs.Kept.{Kept, after_step, entry_of, world_behind}
 use Rattle.device_core.specs.Mapped.{IsDevice, NamePlaces}
 

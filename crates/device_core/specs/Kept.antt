@@ -10,7 +10,7 @@ use Rattle.journal_model.specs.statements.DeadEnd.{can_step}
 use Rattle.journal_model.specs.statements.Scheduled.{own_order}
 use Rattle.turn_order.specs.declared.TurnOrder.{TurnOrder}
 use Rattle.turn_order.specs.Left.{left}
-pub use Rattle.room_state.specs.room_turns.Turns.{Kept, state_behind, world_behind, with_entry, entry_of, after_step}
+pub use Rattle.room_state.specs.turns.Turns.{Kept, state_behind, world_behind, with_entry, entry_of, after_step}
 
 -- the answer to a turn of an actor with the given next entry or need, where the journal isn't complete
 abbrev pub answer_of : Kept → Result Entry Need → Turn

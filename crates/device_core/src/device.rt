@@ -5,7 +5,7 @@ ghost use Rattle.journal_model.specs.rules.Legal.{IsLegal, made_of, state_of};
 ghost use Rattle.journal_model.specs.statements.MarkLaws.{MapsAreRight};
 ghost use Rattle.journal_model.specs.rules.Transparent.{IsTransparent};
 ghost use Rattle.map_follow.specs.Follows.{KnowExactly};
-ghost use Rattle.room_state.specs.room_turns.Turns.{step_of};
+ghost use Rattle.room_state.specs.turns.Turns.{step_of};
 ghost use Rattle.laws.specs.law_sound.Sound.{SomeGoesOn};
 ghost use Rattle.page_accounts.specs.Accounts.{AreAccountsOf};
 ghost use Rattle.device_core.specs.Done.{done_of};
@@ -17,8 +17,8 @@ use cpu_maps::CpuMaps;
 use journal_model::{Entry, Script};
 use page_accounts::Accounts;
 use room_accounts::accounts_of;
-use room_device::turn;
-use room_state::room_turns::{Rooms, Step};
+use room_device::{is_idle, turn};
+use room_state::turns::{Rooms, Step};
 use std::alloc::Global;
 use std::marker::Model;
 use ttm_base::{Actor, NoMemory, Turn};
@@ -131,9 +131,9 @@ impl Device {
     pub(crate) fn reached(&self, ctx: u32) -> u64
         ensures { result ≡ done_of self.now.journal ctx }
     {
-        let line = self.rooms.line();
-        if ctx < line.contexts() {
-            line.reached(ctx)
+        let timeline = self.rooms.line();
+        if ctx < timeline.contexts() {
+            timeline.reached(ctx)
         } else {
             0
         }
@@ -178,6 +178,9 @@ impl Device {
         ensures made { OnOk result (self.new ≡ after_step self.old (entry_of self.old who)) }
         ensures err { OnErr result (self.new ≡ self.old) }
     {
+        if is_idle(&self.rooms, who) {
+            return Ok(false);
+        }
         match self.turn(who)? {
             Step::Made => Ok(true),
             Step::Need(_) => Ok(false),

@@ -28,8 +28,8 @@ fn follow_answer(maps: &mut CpuMaps, rooms: &Rooms, before: &[Entry], entry: &En
 }
 
 /// Does to `maps` what the last entry does. Takes no memory. Takes constant time without mappings. Else takes that of the mappings and of the pages
-/// whose entries go and, where the entry answers a thread, that of a search by halves among the script's marks and of the marks at the command; for
-/// a peek or poke also of the thread's marks above it.
+/// whose entries come or go and, where the entry answers a thread, that of searches by halves among the script's marks and of the marks at the
+/// command.
 pub(crate) fn follow(maps: &mut CpuMaps, rooms: &Rooms)
     ensures { (before : List OneEntry) (entry : OneEntry) → rooms.now.journal ≡ before ++ entry ∷ [] → maps.new ≡ areas_after rooms.now.script (state_of rooms.now.script before) entry maps.old }
 {

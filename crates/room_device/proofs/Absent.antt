@@ -11,12 +11,12 @@ use Rattle.journal_model.specs.rules.Next.{head_of, step_of_job}
 use Rattle.journal_model.specs.scripts.ScriptRules.{is_script}
 use Rattle.laws.proofs.law_state.GoodStates.{good_law}
 use Rattle.laws.proofs.law_state.JobNames.{found_at}
-use Rattle.room_state.specs.room_turns.Turns.{Kept, entry_of, state_behind, world_behind}
+use Rattle.room_state.specs.turns.Turns.{Kept, entry_of, state_behind, world_behind}
 
 same_context : (ctx e : ℕ) (q : Bool) → ((ctx == e) && q) ≡ true → ctx ≡ e
 same_context ctx e q h = grind arith
 
-headless : (script : Script) (journal : List Entry) → IsTrue (is_script script) → IsLegal script journal → (e : ℕ) → script.sizes.engines < e → (o : Option Job) → head_of (state_of script journal) e ≡ o → o ≡ None
+pub headless : (script : Script) (journal : List Entry) → IsTrue (is_script script) → IsLegal script journal → (e : ℕ) → script.sizes.engines < e → (o : Option Job) → head_of (state_of script journal) e ≡ o → o ≡ None
 headless script journal fits legal e beyond None at = refl
 headless script journal fits legal e beyond (Some j) at =
     let found = found_at (λ (j : Job). (j.id.ctx == e) && not j.finished) (state_of script journal).core.jobs j at in

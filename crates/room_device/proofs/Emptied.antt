@@ -22,8 +22,8 @@ use Rattle.journal_model.specs.rules.Search.{Step}
 use Rattle.journal_model.specs.rules.Tasks.{stage_of, task_of}
 use Rattle.evict_core.specs.Tasks.{lets_go}
 use Rattle.swap_core.specs.Due.{can_swap, if_for_swap, swap_out_due, swapped_at}
-use Rattle.room_state.specs.room_turns.Turns.{Kept, entry_of, state_behind}
-use Rattle.room_state.proofs.room_turns.Threads.{command_at, entry_is, next_at}
+use Rattle.room_state.specs.turns.Turns.{Kept, entry_of, state_behind}
+use Rattle.room_state.proofs.turns.Threads.{command_at, entry_is, next_at}
 
 module _ (script : Script) (s : State) (b : BufId) where
   -- the step of a victim, by its frames and the free slot

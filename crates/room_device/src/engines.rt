@@ -3,14 +3,14 @@
 ghost use Rattle.std.specs.Prelude.{◌≡◌, ◌≤◌, IfOk, OnOk, OnErr};
 ghost use Rattle.ttm_base.specs.declared.Actor.TheVariants as actor;
 ghost use Rattle.room_queries.specs.Heads.{head_piece};
-ghost use Rattle.room_state.specs.room_turns.Turns.{state_behind, world_behind};
-ghost use Rattle.room_state.specs.room_turns.Acting.{made_unless};
-ghost use Rattle.room_state.specs.room_turns.Turns.{after_step, entry_by, entry_of, step_of};
+ghost use Rattle.room_state.specs.turns.Turns.{state_behind, world_behind};
+ghost use Rattle.room_state.specs.turns.Acting.{made_unless};
+ghost use Rattle.room_state.specs.turns.Turns.{after_step, entry_by, entry_of, step_of};
 ghost use Rattle.room_device.specs.Needs.{engine_needs};
 
 use copy_packet::ProbeBytes;
 use journal_model::{Bytes, Kind};
-use room_state::room_turns::{Rooms, Step, turn};
+use room_state::turns::{Rooms, Step, turn};
 use std::alloc::Global;
 use ttm_base::{Actor, Need, NoMemory};
 

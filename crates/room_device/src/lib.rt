@@ -2,7 +2,9 @@
 #![tactic(auto)]
 
 mod engines;
+mod idle;
 mod threads;
 mod turns;
 
+pub use idle::is_idle;
 pub use turns::turn;

@@ -2,15 +2,15 @@ ghost use Rattle.std.specs.Prelude.{◌≡◌, ◌<◌, false, Some, IfOk, OnOk,
 ghost use Rattle.ttm_base.specs.declared.Actor.TheVariants as actor;
 ghost use Rattle.journal_model.specs.declared.state.Task.TheVariants as task;
 ghost use Rattle.journal_model.specs.rules.Tasks.{task_of};
-ghost use Rattle.room_state.specs.room_turns.BufferSearches.{seen};
-ghost use Rattle.room_state.specs.room_turns.Searching.{buffer_search_of, finds_choice};
-ghost use Rattle.room_state.specs.room_turns.Turns.{after_step, entry_of, state_behind, step_of};
+ghost use Rattle.room_state.specs.turns.BufferSearches.{seen};
+ghost use Rattle.room_state.specs.turns.Searching.{buffer_search_of, finds_choice};
+ghost use Rattle.room_state.specs.turns.Turns.{after_step, entry_of, state_behind, step_of};
 
 use evict_core::{catch_victim, note_dry, release_victim, skip_victim};
 use ghost_destroy::hold;
 use journal_model::{Command, Task};
 use move_pipeline::{bind, move_to_target, release_target, take_pages, unbind};
-use room_state::room_turns::{BufferSearch, Rooms, Step, buffer_search_for};
+use room_state::turns::{BufferSearch, Rooms, Step, buffer_search_for};
 use std::alloc::Global;
 use swap_core::{
     can_swap, fill_buffer, give_back_frames, has_frame_in_vram, is_victim_due, swap_out,

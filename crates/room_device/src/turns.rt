@@ -1,11 +1,11 @@
 ghost use Rattle.std.specs.Prelude.{◌≡◌, IfOk, OnOk, OnErr};
 ghost use Rattle.ttm_base.specs.declared.Actor.TheVariants as actor;
-ghost use Rattle.room_state.specs.room_turns.Turns.{after_step, entry_of, step_of};
+ghost use Rattle.room_state.specs.turns.Turns.{after_step, entry_of, step_of};
 
 use crate::engines::run;
 use crate::threads::turn_of_thread;
 use ghost_destroy::reap_first;
-use room_state::room_turns::{Rooms, Step};
+use room_state::turns::{Rooms, Step};
 use std::alloc::Global;
 use ttm_base::{Actor, Need, NoMemory};
 

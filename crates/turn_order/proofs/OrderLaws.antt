@@ -12,7 +12,7 @@ use Rattle.journal_model.specs.statements.Complete.{thread_numbers}
 use Rattle.journal_model.specs.statements.Scheduled.{Ticketed, own_order, sorted_by_stamp}
 use Rattle.turn_order.specs.declared.asked.Asked.{Asked}
 use Rattle.turn_order.specs.Tickets.{comes_after, stamp_in, ticketed_in, tickets_after}
-use Rattle.turn_order.specs.Left.{Begins, engines_from, left_behind, others_from, threads_after}
+use Rattle.turn_order.specs.Left.{Begins, engines_from, left_to_ask, others_from, threads_after}
 use Rattle.turn_order.proofs.SortLaws.{filter_keeps}
 use Rattle.turn_order.proofs.TicketLaws.{next_ticket, no_ticket}
 
@@ -103,7 +103,7 @@ threads_all script courses =
     ∙ ap (λ (os : List Actor). map (λ (t : Ticketed). actor.Thread t.thread) (sorted_by_stamp tickets) ++ os) (others_all script courses)
 
 -- where nobody was asked, all are left
-pub all_left : (script : Script) (s : State) → left_behind script s.courses None ≡ own_order script s
+pub all_left : (script : Script) (s : State) → left_to_ask script s.courses None ≡ own_order script s
 all_left script s =
     let engines = map actor.Engine (count_from 1 (script.sizes.engines + 1) 0) in
     let ticketed = map (λ (t : Ticketed). actor.Thread t.thread) (sorted_by_stamp (filter_map (ticketed_in s.courses) (thread_numbers script))) in

@@ -1,13 +1,15 @@
 -- The threads' tickets: one thread more, and the oldest that comes after the last.
-use Rattle.std.proofs.Common.{◌≡◌, ℕ, zero, suc, ◌+◌, ◌<◌, Bool, true, false, cond, List, [], ◌∷◌, ◌++◌, length, Option, Some, None, refl, ap, ◌∙◌, arith}
+use Rattle.std.proofs.Common.{◌≡◌, ℕ, zero, suc, ◌+◌, ◌<◌, ◌≤◌, Bool, true, false, cond, List, [], ◌∷◌, ◌++◌, length, Option, Some, None, refl, sym, ap, ◌∙◌, arith}
 use Rattle.std.proofs.lemmas.Grind.{common_steps}
 use Rattle.std.proofs.lemmas.List.Elements.{filter_map-append, filter-append}
-use Rattle.std.specs.Prelude.{filter, filter_map, option_map}
+use Rattle.std.proofs.lemmas.Option.{slice_get_past}
+use Rattle.std.specs.Prelude.{◌-◌, ◌==◌, filter, filter_map, option_map, slice_get, unwrap_or, if◌then◌else◌}
 use Rattle.std.specs.List.{AllByRecursion, cons_option}
 use Rattle.ttm_base.specs.declared.Stamp.{Stamp}
 use Rattle.ttm_base.specs.ListWords.{count_from, least_by}
 use Rattle.journal_model.specs.declared.script.Script.{Script}
 use Rattle.journal_model.specs.declared.state.Course.{Course}
+use Rattle.journal_model.specs.rules.State.{new_course}
 use Rattle.journal_model.specs.statements.Complete.{thread_numbers}
 use Rattle.journal_model.specs.statements.Scheduled.{Ticketed, sorted_by_stamp}
 use Rattle.turn_order.specs.Tickets.{comes_after, least_with, older, stamp_in, ticketed_in, tickets_after}
@@ -64,6 +66,33 @@ tickets_rise courses (suc n) start = by (stamp_in courses start) (tickets_rise c
         → Rising (cons_option (option_map (λ stamp. record { thread = start; stamp = stamp.0 }) o) (filter_map (ticketed_in courses) (count_from 1 n (1 + start))))
     by None rest = rest
     by (Some s) rest = (tickets_above courses start n (1 + start) (omega arith), rest)
+
+-- ---- threads without a course
+
+-- they have no ticket
+no_course : (courses : List Course) (thread : ℕ) → length courses < thread → stamp_in courses thread ≡ None
+no_course courses thread h = ap (λ (o : Option Course). (unwrap_or o (new_course 0)).stamp) (by (thread == 0))
+  where
+    by : (b : Bool) → (if b then None else slice_get courses (thread - 1)) ≡ None
+    by true = refl
+    by false = slice_get_past courses (thread - 1) (omega (arith, h))
+
+no_courses : (courses : List Course) (n start : ℕ) → length courses < start → filter_map (ticketed_in courses) (count_from 1 n start) ≡ []
+no_courses courses zero start h = refl
+no_courses courses (suc n) start h =
+    ap (λ (o : Option Stamp). cons_option (option_map (λ stamp. record { thread = start; stamp = stamp.0 }) o) (filter_map (ticketed_in courses) (count_from 1 n (1 + start)))) (no_course courses start h)
+    ∙ no_courses courses n (1 + start) (omega (arith, h))
+
+-- the tickets of `n` threads are those of the first `k` of them, if no other has a course
+pub tickets_within : (courses : List Course) (n k start : ℕ) → k ≤ n → (k < n → length courses < start + k)
+    → filter_map (ticketed_in courses) (count_from 1 k start) ≡ filter_map (ticketed_in courses) (count_from 1 n start)
+tickets_within courses zero zero start within h = refl
+tickets_within courses zero (suc k) start within h = absurd (omega (arith, within))
+tickets_within courses (suc n) zero start within h =
+    let past = h (omega arith) in sym (no_courses courses (suc n) start (omega (arith, past)))
+tickets_within courses (suc n) (suc k) start within h =
+    ap (λ ts. cons_option (ticketed_in courses start) ts)
+    (tickets_within courses n k (1 + start) (omega (arith, within)) (λ less. let past = h (omega (arith, less)) in omega (arith, past)))
 
 -- ---- the oldest that comes after the last
 

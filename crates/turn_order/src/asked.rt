@@ -1,6 +1,6 @@
 ghost use Rattle.std.specs.Prelude.{◌≡◌, ◌+◌, ◌<◌, ◌^◌, length, option_map};
 ghost use Rattle.turn_order.specs.Tickets.{ticketed_of};
-ghost use Rattle.turn_order.specs.Left.{Begins, actor_of, left_after, left_behind, others_from, threads_after};
+ghost use Rattle.turn_order.specs.Left.{Begins, actor_of, left_after, left_to_ask, others_from, threads_after};
 
 use crate::tickets::{Ticket, has_no_ticket, ticket_after};
 use journal_model::{Courses, Script};
@@ -63,25 +63,21 @@ impl Asked {
         requires { length script.now.threads < 2 ^ 32 }
         ensures { Begins script.now courses.now (left_after script.now courses.now self) result }
     {
-        match self {
-            Asked::Reaper => Some(Asked::Engine(0)),
-            Asked::Engine(e) => {
-                if e < script.sizes.engines {
-                    Some(Asked::Engine(e + 1))
-                } else {
-                    thread_after(script, courses, None)
-                }
-            }
-            Asked::Ticketed(ticket) => thread_after(script, courses, Some(ticket)),
-            Asked::Unticketed(thread) => other_after(script, courses, thread),
-        }
+        let last = match self {
+            Asked::Reaper => return Some(Asked::Engine(0)),
+            Asked::Engine(e) if e < script.sizes.engines => return Some(Asked::Engine(e + 1)),
+            Asked::Engine(_) => None,
+            Asked::Ticketed(ticket) => Some(ticket),
+            Asked::Unticketed(thread) => return other_after(script, courses, thread),
+        };
+        thread_after(script, courses, last)
     }
 }
 
 /// Returns who is asked after `last`, or who is asked first if nobody was.
 pub(crate) fn asked_after(script: &Script, courses: &Courses, last: Option<Asked>) -> Option<Asked>
     requires { length script.now.threads < 2 ^ 32 }
-    ensures { Begins script.now courses.now (left_behind script.now courses.now last) result }
+    ensures { Begins script.now courses.now (left_to_ask script.now courses.now last) result }
 {
     match last {
         Some(last) => last.next(script, courses),

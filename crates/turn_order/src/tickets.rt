@@ -100,8 +100,9 @@ pub(crate) fn ticket_after(
     requires { length script.now.threads < 2 ^ 32 }
     ensures { option_map ticketed_of result ≡ least_by (λ t. t.stamp) (tickets_after script.now courses.now (option_map ticketed_of last)) }
 {
+    let with_course = script.threads.len().min(courses.len());
     let mut least = None;
-    for i in 0..script.threads.len() {
+    for i in 0..with_course {
         let ticket = ticket_of(courses, i as u32 + 1);
         least = least_of(least, ticket, last);
     }

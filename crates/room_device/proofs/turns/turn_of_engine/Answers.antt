@@ -1,6 +1,6 @@
 use Rattle.std.proofs.Common.{◌<◌, sym, ap, subst}
 use Rattle.journal_model.specs.declared.script.Script.{Script}
-use Rattle.room_state.specs.room_turns.Turns.{after_step, step_of}
+use Rattle.room_state.specs.turns.Turns.{after_step, step_of}
 use Rattle.room_device.proofs.Absent.{absent_needs}
 use Rattle.room_device.proofs.turns.turn_of_engine.Goals as goal
 

@@ -9,7 +9,7 @@ returns-in-Reaper c =
     ap (left_after c.args.script.now c.args.courses.now) c.in-Reaper.is
     ∙ ap (λ (es : List Actor). es ++ threads_after c.args.script.now c.args.courses.now None) (engine_next c.args.script.now 0 (omega arith))
 
-pub returns-then-e-script : goal.returns-then-e-script
-returns-then-e-script c =
+pub returns-in-Engine : goal.returns-in-Engine
+returns-in-Engine c =
     ap (left_after c.args.script.now c.args.courses.now) c.in-Engine.is
     ∙ ap (λ (es : List Actor). es ++ threads_after c.args.script.now c.args.courses.now None) (engine_next c.args.script.now (c.in-Engine.e + 1) (omega arith))
