@@ -1,33 +1,21 @@
 -- The last jobs, of which none is done and whose numbers follow one another.
 use Rattle.std.proofs.Common.{◌≡◌, ◌∙◌, ℕ, zero, suc, ◌+◌, ◌-◌, ◌<◌, ◌≤◌, Bool, true, false, List, [], ◌∷◌, ◌++◌, length, take, drop, get_or, refl, sym, subst, ap, arith, if◌then◌else◌}
-use Rattle.std.specs.Prelude.{IsTrue, map, not, nat_le, nat_lt, ◌&&◌, ◌==◌}
+use Rattle.std.specs.Prelude.{IsTrue, map, not, ◌&&◌}
 use Rattle.std.specs.List.{list_all, list_any, slice_range}
 use Rattle.std.proofs.lemmas.List.Folds.{drop_split}
 use Rattle.std.proofs.lemmas.Grind.{common_steps}
 use Rattle.std.proofs.lemmas.Bool.Decides.{nat_tests}
-use Rattle.ttm_base.specs.ListWords.{count_from}
 use Rattle.ttm_base.specs.declared.JobId.{JobId}
 use Rattle.journal_model.specs.declared.state.Job.{Job}
 use Rattle.journal_model.specs.declared.job_ids.JobRun.{JobRun}
 use Rattle.journal_model.specs.rules.JobNames.{same_job}
-use Rattle.journal_model.specs.code.JobRuns.{jobs_of_run, is_in, behind, fits}
-use Rattle.journal_model.specs.code.Jobs.{IsRow, closes, has_packets_left}
+use Rattle.journal_model.specs.code.JobRuns.{jobs_of_run, is_in, behind, fits, up_to}
+use Rattle.journal_model.specs.code.Jobs.{IsRow, closes, ends_open, has_packets_left}
 use Rattle.journal_model.specs.rules.ApplyJobs.{changed_job}
-use Rattle.journal_model.proofs.JobRunLaws.{joined_jobs}
+use Rattle.journal_model.proofs.JobRunLaws.{joined_jobs, length-run}
 use Rattle.journal_model.proofs.SplitJobs.{others_same, others_left, left_behind, drop-map, any_of_rest}
 
 -- ---- a run's jobs
-
-length-count : (n start : ℕ) → length (count_from 1 n start) ≡ n
-length-count zero start = refl
-length-count (suc n) start = ap suc (length-count n (1 + start))
-
-length-map : {X Y : Type 0} (f : X → Y) (xs : List X) → length (map f xs) ≡ length xs
-length-map f [] = refl
-length-map f (x ∷ xs) = ap suc (length-map f xs)
-
-length-run : (row : JobRun) → length (jobs_of_run row) ≡ row.count
-length-run row = length-map (λ n. record { ctx = row.ctx; num = n }) (count_from 1 row.count row.first) ∙ length-count row.count row.first
 
 -- a job that isn't one of them has another name
 pub none_in : (i : JobId) (ctx n first : ℕ) → is_in i (record { ctx = ctx; first = first; count = n }) ≡ false → list_any (same_job i) (jobs_of_run (record { ctx = ctx; first = first; count = n })) ≡ false
@@ -40,6 +28,10 @@ none_in i ctx (suc n) first h =
 drop-front : {X : Type 0} (xs ys : List X) → drop (length xs) (xs ++ ys) ≡ ys
 drop-front [] ys = refl
 drop-front (x ∷ xs) ys = drop-front xs ys
+
+drop-more : {X : Type 0} (xs ys : List X) (k : ℕ) → drop (length xs + k) (xs ++ ys) ≡ drop k ys
+drop-more [] ys k = ap (λ n. drop n ys) (let e : zero + k ≡ k = omega arith in e)
+drop-more (x ∷ xs) ys k = ap (λ n. drop n ((x ∷ xs) ++ ys)) (let e : suc (length xs) + k ≡ suc (length xs + k) = omega arith in e) ∙ drop-more xs ys k
 
 -- those after the first k of a run
 run_behind : (ctx first k n : ℕ) → drop k (jobs_of_run (record { ctx = ctx; first = first; count = k + n })) ≡ jobs_of_run (record { ctx = ctx; first = first + k; count = n })
@@ -73,8 +65,12 @@ row_pushed jobs job row both h f e r =
       fit = f;
     }
 
+length-names : (jobs : List Job) → length (map (λ j. j.id) jobs) ≡ length jobs
+length-names [] = refl
+length-names (j ∷ jobs) = ap suc (length-names jobs)
+
 length-last : (jobs : List Job) (row : JobRun) (r : IsRow jobs row) → length r.last ≡ row.count
-length-last jobs row r = sym (length-map (λ j. j.id) r.last) ∙ ap length r.names ∙ length-run row
+length-last jobs row r = sym (length-names r.last) ∙ ap length r.names ∙ length-run row
 
 names-last : (jobs : List Job) (row : JobRun) (k : ℕ) (r : IsRow jobs row) → k ≤ row.count → map (λ j. j.id) (drop k r.last) ≡ jobs_of_run (record { ctx = row.ctx; first = row.first + k; count = row.count - k })
 names-last jobs row k r l =
@@ -156,10 +152,6 @@ none_behind jobs row id k end r l m h =
     let here : list_any (λ j. same_job id j.id) (drop k r.last) ≡ false = any_names id (drop k r.last) ∙ ap (list_any (same_job id)) (names-last jobs row k r l) ∙ none in
     let there : list_any (λ j. same_job id j.id) (drop (length r.before + k) jobs) ≡ false = subst (λ xs. list_any (λ j. same_job id j.id) (drop (length r.before + k) xs) ≡ false) (sym joined) (ap (list_any (λ j. same_job id j.id)) (drop-more r.before r.last k) ∙ here) in
     subst (λ n. list_any (λ j. same_job id j.id) (drop n jobs) ≡ false) (sym sum) (any_later (λ j. same_job id j.id) jobs (length r.before + k) (end - (length r.before + k)) there)
-  where
-    drop-more : (xs ys : List Job) (k : ℕ) → drop (length xs + k) (xs ++ ys) ≡ drop k ys
-    drop-more [] ys k = ap (λ n. drop n ys) (let e : zero + k ≡ k = omega arith in e)
-    drop-more (x ∷ xs) ys k = ap (λ n. drop n ((x ∷ xs) ++ ys)) (let e : suc (length xs) + k ≡ suc (length xs + k) = omega arith in e) ∙ drop-more xs ys k
 
 -- the row once a job is done
 pub row_done : (f : Job → Job) (jobs : List Job) (row : JobRun) (id : JobId) (k : ℕ) → k ≤ row.count → is_in id (behind k row) ≡ false → IsRow jobs row → IsRow (changed_job f id jobs) (behind k row)
@@ -204,3 +196,68 @@ open_in before (j ∷ last) h =
 pub row_open : (jobs : List Job) (row : JobRun) → IsRow jobs row → IsTrue (list_all (λ i. list_any (λ j. same_job i j.id && not j.finished) jobs) (jobs_of_run row))
 row_open jobs row r = subst (λ all. list_all (λ i. list_any (λ j. same_job i j.id && not j.finished) all) (jobs_of_run row) ≡ true) (sym r.joined)
     (subst (λ names. list_all (λ i. list_any (λ j. same_job i j.id && not j.finished) (r.before ++ r.last)) names ≡ true) r.names (open_in r.before r.last r.pending))
+
+-- ---- a last job that isn't done
+
+pub open_pushed : (jobs : List Job) (job : Job) → ends_open (jobs ++ job ∷ []) ≡ not job.finished
+open_pushed jobs job =
+    let n : length (jobs ++ job ∷ []) - 1 ≡ length jobs = grind (arith, common_steps) in
+    ap (λ k. list_any (λ j. not j.finished) (drop k (jobs ++ job ∷ []))) n ∙ ap (list_any (λ j. not j.finished)) (drop-front jobs (job ∷ [])) ∙ one job
+  where
+    one : (j : Job) → list_any (λ j. not j.finished) (j ∷ []) ≡ not j.finished
+    one j = grind (arith, common_steps)
+
+length-changed : (f : Job → Job) (id : JobId) (jobs : List Job) → length (changed_job f id jobs) ≡ length jobs
+length-changed f id [] = refl
+length-changed f id (j ∷ jobs) = ap suc (length-changed f id jobs)
+
+drop-changed : (f : Job → Job) (id : JobId) (n : ℕ) (jobs : List Job) → drop n (changed_job f id jobs) ≡ changed_job f id (drop n jobs)
+drop-changed f id zero jobs = refl
+drop-changed f id (suc n) [] = refl
+drop-changed f id (suc n) (j ∷ jobs) = drop-changed f id n jobs
+
+-- the job that is left open was open, and has another name
+open_before : (id : JobId) (jobs : List Job) → list_any (λ j. not j.finished) (changed_job (λ j. record j { finished = true }) id jobs) ≡ true → list_any (λ j. not j.finished) jobs ≡ true
+open_before id [] h = h
+open_before id (j ∷ jobs) h = let rest = open_before id jobs in grind (arith, common_steps)
+
+open_other : (id : JobId) (jobs : List Job) → list_any (λ j. not j.finished) (changed_job (λ j. record j { finished = true }) id jobs) ≡ true → list_any (λ i. not (same_job id i)) (map (λ j. j.id) jobs) ≡ true
+open_other id [] h = h
+open_other id (j ∷ jobs) h = let rest = open_other id jobs in grind (arith, common_steps)
+
+pub open_counted : (id : JobId) (jobs : List Job) → ends_open (changed_job (λ j. record j { ran = j.ran + 1 }) id jobs) ≡ true → ends_open jobs ≡ true
+open_counted id jobs h =
+    same (drop (length jobs - 1) jobs)
+    (sym (ap (list_any (λ j. not j.finished)) (ap (λ n. drop (n - 1) (changed_job (λ j. record j { ran = j.ran + 1 }) id jobs)) (length-changed (λ j. record j { ran = j.ran + 1 }) id jobs) ∙ drop-changed (λ j. record j { ran = j.ran + 1 }) id (length jobs - 1) jobs)) ∙ h)
+  where
+    same : (xs : List Job) → list_any (λ j. not j.finished) (changed_job (λ j. record j { ran = j.ran + 1 }) id xs) ≡ true → list_any (λ j. not j.finished) xs ≡ true
+    same [] h = h
+    same (x ∷ xs) h = let rest = same xs in grind (arith, common_steps)
+
+-- the last of the row has another name, so some of the row are left
+left_open : (id : JobId) (ctx first n : ℕ) → list_any (λ i. not (same_job id i)) (jobs_of_run (record { ctx = ctx; first = first + n; count = 1 })) ≡ true
+    → 0 < suc n - up_to id (record { ctx = ctx; first = first; count = suc n })
+left_open id ctx first n h =
+    let other : same_job id (record { ctx = ctx; num = first + n }) ≡ false = grind (arith, common_steps) in
+    grind (arith, nat_tests)
+
+pub open_finished : (jobs : List Job) (row : JobRun) (id : JobId) → IsRow jobs row → (ends_open jobs ≡ true → 0 < row.count)
+    → ends_open (changed_job (λ j. record j { finished = true }) id jobs) ≡ true → 0 < row.count - up_to id row
+open_finished jobs row id r some h =
+    let end : list_any (λ j. not j.finished) (changed_job (λ j. record j { finished = true }) id (drop (length jobs - 1) jobs)) ≡ true =
+    sym (ap (list_any (λ j. not j.finished)) (ap (λ n. drop (n - 1) (changed_job (λ j. record j { finished = true }) id jobs)) (length-changed (λ j. record j { finished = true }) id jobs) ∙ drop-changed (λ j. record j { finished = true }) id (length jobs - 1) jobs)) ∙ h in
+    by row.count (some (open_before id (drop (length jobs - 1) jobs) end)) refl (open_other id (drop (length jobs - 1) jobs) end)
+  where
+    by : (count : ℕ) → 0 < count → row.count ≡ count → list_any (λ i. not (same_job id i)) (map (λ j. j.id) (drop (length jobs - 1) jobs)) ≡ true → 0 < row.count - up_to id row
+    by zero l e other = absurd (omega (arith, l))
+    by (suc n) l e other =
+        let last = length-last jobs row r in
+        let joined = r.joined in
+        let all : length jobs ≡ length r.before + row.count = grind (arith, common_steps) in
+        let at : length jobs - 1 ≡ length r.before + n = omega (arith, all, e) in
+        let here : drop (length jobs - 1) jobs ≡ drop n r.last = ap (λ k. drop k jobs) at ∙ ap (drop (length r.before + n)) joined ∙ drop-more r.before r.last n in
+        let few : n ≤ row.count = omega (arith, e) in
+        let one : row.count - n ≡ 1 = omega (arith, e) in
+        let names = ap (map (λ j. j.id)) here ∙ names-last jobs row n r few ∙ ap (λ m. jobs_of_run (record { ctx = row.ctx; first = row.first + n; count = m })) one in
+        let left = left_open id row.ctx row.first n (sym (ap (list_any (λ i. not (same_job id i))) names) ∙ other) in
+        subst (λ m. 0 < m - up_to id (record row { count = m })) (sym e) left

@@ -11,8 +11,8 @@ use ttm_base::ItemList;
 const CONTEXTS: usize = 9;
 
 /// Jobs in order of emission. It keeps the number of those at the front that are done, so that a search for a job that isn't done doesn't
-/// pass them each time; for each context the greatest number, so that a job with a new name isn't looked for; and the last jobs, as far as
-/// none of them is done and their numbers follow one another, so that they are found by their numbers.
+/// pass them each time; for each context the greatest number, so that a job with a new name isn't looked for; and some of the
+/// last jobs, none of which is done and whose numbers follow one another, so that they are found by their numbers.
 #[derive(Drop)]
 pub struct Jobs {
     all: ItemList<Job>,

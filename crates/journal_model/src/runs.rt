@@ -1,5 +1,4 @@
-ghost use Rattle.std.specs.Prelude.{◌≡◌, ◌++◌, ◌∷◌, [], Bool, IfSome, IsTrue, List, OnOk, OnErr, flat_map};
-ghost use Rattle.std.specs.Bool.{OnTrue};
+ghost use Rattle.std.specs.Prelude.{◌≡◌, ◌==◌, ◌<◌, ◌^◌, ◌++◌, ◌∷◌, [], Bool, IfNone, IfSome, IsTrue, List, OnOk, OnErr, flat_map, length};
 ghost use Rattle.std.specs.List.{list_all};
 
 use std::alloc::Global;
@@ -24,13 +23,15 @@ pub trait Run: Copy {
 
     /// Returns whether the run has no item.
     fn is_empty(self) -> bool
-        ensures { OnTrue result (items self ≡ []) };
+        ensures { result ≡ (length (items self) == 0) };
 
-    /// Joins the run and `next` to one if `next` goes on from it, else returns `None`.
+    /// Joins the run and `next` to one if `next` goes on from it, else returns `None`: then no run has the items of both, unless one of them
+    /// is empty or they are 2^64 or more.
     fn joined(self, next: Self) -> Option<Self>
         requires { IsTrue (is_whole next) }
         ensures items { IfSome result (λ both. items both ≡ items self ++ items next) }
-        ensures whole { IfSome result (λ both. IsTrue (is_whole both)) };
+        ensures whole { IfSome result (λ both. IsTrue (is_whole both)) }
+        ensures none { IfNone result ((both : Self) → 0 < length (items self) → 0 < length (items next) → length (items both) < 2 ^ 64 → items both ≡ items self ++ items next → ⊥) };
 }
 
 /// A list of items, kept by runs, since an item mostly goes on from the one before.

@@ -1,5 +1,5 @@
 -- Jobs of one context whose numbers follow one another, and fences of such jobs, kept as a run.
-use Rattle.std.specs.Prelude.{ℕ, ◌+◌, ◌-◌, ◌^◌, ◌==◌, Bool, List, ◌&&◌, map, nat_le, nat_lt}
+use Rattle.std.specs.Prelude.{ℕ, ◌+◌, ◌-◌, ◌^◌, ◌==◌, Bool, List, ◌&&◌, if◌then◌else◌, map, nat_le, nat_lt}
 use Rattle.ttm_base.specs.ListWords.{count_from}
 use Rattle.ttm_base.specs.declared.JobId.{JobId}
 use Rattle.ttm_base.specs.declared.Fence.{Fence}
@@ -13,6 +13,10 @@ jobs_of_run r = map (λ n. record { ctx = r.ctx; num = n }) (count_from 1 r.coun
 -- the job is one of the run's
 abbrev pub is_in : JobId → JobRun → Bool
 is_in i r = (i.ctx == r.ctx) && (nat_le r.first i.num && nat_lt i.num (r.first + r.count))
+
+-- how many of the run's jobs come up to this one, itself too; none, where it isn't one of them
+abbrev pub up_to : JobId → JobRun → ℕ
+up_to i r = if is_in i r then i.num - r.first + 1 else 0
 
 -- the run without its first jobs, so many
 abbrev pub behind : ℕ → JobRun → JobRun

@@ -1,5 +1,5 @@
 -- Jobs that are done and that nobody looks for: those at the front of the list, as far as they share no name with a later one.
-use Rattle.std.specs.Prelude.{◌≡◌, ℕ, ◌+◌, ◌^◌, ◌≤◌, ◌++◌, ◌||◌, ◌&&◌, Bool, false, List, [], ◌∷◌, IsTrue, length, map, take, drop, not, nat_lt, nat_le, slice_index_or}
+use Rattle.std.specs.Prelude.{◌≡◌, ℕ, ◌+◌, ◌-◌, ◌^◌, ◌<◌, ◌≤◌, ◌++◌, ◌||◌, ◌&&◌, Bool, true, false, List, [], ◌∷◌, IsTrue, length, map, take, drop, not, nat_lt, nat_le, slice_index_or}
 use Rattle.std.specs.List.{list_all, list_any}
 use Rattle.ttm_base.specs.declared.JobId.{JobId}
 use Rattle.journal_model.specs.declared.state.Job.{Job}
@@ -48,11 +48,16 @@ pub record IsRow (jobs : List Job) (row : JobRun) : Type 0 where
   pub pending : IsTrue (list_all (λ j. not j.finished) last)
   pub fit : IsTrue (fits row)
 
+-- there is a last job, and it isn't done
+abbrev pub ends_open : List Job → Bool
+ends_open jobs = list_any (λ j. not j.finished) (drop (length jobs - 1) jobs)
+
 -- what is kept of the jobs: how many are closed, greatest numbers, and the last of them
 pub record AreKept (jobs : List Job) (closed : ℕ) (greatest : List ℕ) (row : JobRun) : Type 0 where
   pub split : IsSplit jobs closed
   pub bounded : AreBounded greatest jobs
   pub end : IsRow jobs row
+  pub some : ends_open jobs ≡ true → 0 < row.count
 
 -- the first of these jobs can be closed: it is done, and no later one has its name
 abbrev pub closes : List Job → Bool

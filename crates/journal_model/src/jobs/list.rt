@@ -1,12 +1,12 @@
-ghost use Rattle.std.specs.Prelude.{◌≡◌, ◌-◌, ◌≤◌, ◌++◌, ◌∷◌, ◌&&◌, [], not, true, false, IsTrue, OnOk, OnErr, ◌+◌, find, length, take, drop, option_copied, if◌then◌else◌};
+ghost use Rattle.std.specs.Prelude.{◌≡◌, ◌<◌, ◌-◌, ◌≤◌, ◌++◌, ◌∷◌, ◌&&◌, [], not, true, false, IsTrue, OnOk, OnErr, ◌+◌, find, length, take, drop, option_copied, if◌then◌else◌};
 ghost use Rattle.std.specs.List.{list_all, list_any};
 ghost use Rattle.journal_model.specs.rules.Waits as waits;
 ghost use Rattle.journal_model.specs.rules.ApplyJobs.{changed_job};
 ghost use Rattle.journal_model.specs.code.JobRuns.{jobs_of_run};
-ghost use Rattle.journal_model.specs.code.Jobs.{ArePending, IsRow, AreBounded, IsSplit, closes, has_packets_left, is_bounded, is_past};
+ghost use Rattle.journal_model.specs.code.Jobs.{ArePending, IsRow, AreBounded, IsSplit, closes, has_packets_left, is_bounded, is_past, ends_open};
 
 use crate::job_ids::JobRun;
-use crate::jobs::row::{NO_ROW, end_of, row_after, row_behind};
+use crate::jobs::row::{NO_ROW, end_of, row_after, row_behind, row_of_last};
 use crate::jobs::{CONTEXTS, Jobs};
 use crate::state::Job;
 use std::alloc::Global;
@@ -202,9 +202,11 @@ impl Jobs {
         &self.all.items()[self.closed..]
     }
 
-    /// Returns the last jobs, as far as none of them is done and their numbers follow one another.
+    /// Returns some of the last jobs, none of which is done and whose numbers follow one another: the last job too, unless it is done.
     pub fn row(&self) -> JobRun
-        ensures { IsTrue (list_all (λ i. list_any (λ j. waits.same_job i j.id && not j.finished) self.now) (jobs_of_run result)) }
+        ensures last { IsRow self.now result }
+        ensures some { ends_open self.now ≡ true → 0 < result.count }
+        ensures open { IsTrue (list_all (λ i. list_any (λ j. waits.same_job i j.id && not j.finished) self.now) (jobs_of_run result)) }
     {
         self.row
     }
@@ -245,8 +247,8 @@ impl Jobs {
         let count = self.all.len();
         if count > 0 {
             self.closed = closed_before(self.all.items(), self.closed);
-            self.row = NO_ROW;
             let _ = self.all.remove(count - 1);
+            self.row = row_of_last(self.all.items());
         }
     }
 

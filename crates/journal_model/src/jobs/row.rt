@@ -1,10 +1,10 @@
-ghost use Rattle.std.specs.Prelude.{◌≡◌, ◌≤◌, ◌++◌, ◌∷◌, [], List, IsTrue, false, true, length, drop};
+ghost use Rattle.std.specs.Prelude.{◌≡◌, ◌<◌, ◌≤◌, ◌-◌, ◌++◌, ◌∷◌, [], List, IsTrue, false, true, length, drop};
 ghost use Rattle.std.specs.List.{list_any};
 ghost use Rattle.journal_model.specs.rules.Waits.{same_job};
 ghost use Rattle.journal_model.specs.declared.state.Job.{Job};
 ghost use Rattle.journal_model.specs.rules.ApplyJobs.{changed_job};
-ghost use Rattle.journal_model.specs.code.JobRuns.{is_in, behind, fits};
-ghost use Rattle.journal_model.specs.code.Jobs.{IsRow};
+ghost use Rattle.journal_model.specs.code.JobRuns.{is_in, behind, fits, up_to};
+ghost use Rattle.journal_model.specs.code.Jobs.{IsRow, ends_open};
 
 use crate::job_ids::JobRun;
 use crate::runs::Run;
@@ -20,6 +20,7 @@ pub const NO_ROW: JobRun = JobRun {
 
 /// Counts the jobs of `row` up to the one named `id`: none, if it is none of them.
 fn count_up_to(row: JobRun, id: JobId) -> u64
+    ensures value { result ≡ up_to id row }
     ensures within { result ≤ row.count }
     ensures apart { is_in id (behind result row) ≡ false }
 {
@@ -32,7 +33,8 @@ fn count_up_to(row: JobRun, id: JobId) -> u64
 
 /// Returns the row once the job `id`, which isn't done, has come after it.
 fn row_with(row: JobRun, id: JobId) -> JobRun
-    ensures { (jobs : List Job) (job : Job) → job.id ≡ id → job.finished ≡ false → IsRow jobs row → IsRow (jobs ++ job ∷ []) result }
+    ensures some { 0 < result.count }
+    ensures row { (jobs : List Job) (job : Job) → job.id ≡ id → job.finished ≡ false → IsRow jobs row → IsRow (jobs ++ job ∷ []) result }
 {
     let alone = JobRun {
         ctx: id.ctx,
@@ -47,7 +49,8 @@ fn row_with(row: JobRun, id: JobId) -> JobRun
 
 /// Returns the row once `job` has come after it.
 pub fn row_behind(row: JobRun, job: &Job) -> JobRun
-    ensures { (jobs : List Job) → IsRow jobs row → IsRow (jobs ++ job.now ∷ []) result }
+    ensures some { job.now.finished ≡ false → 0 < result.count }
+    ensures row { (jobs : List Job) → IsRow jobs row → IsRow (jobs ++ job.now ∷ []) result }
 {
     if job.finished {
         NO_ROW
@@ -60,7 +63,8 @@ pub fn row_behind(row: JobRun, job: &Job) -> JobRun
 #[tactic(auto, using(crate::proofs::RowLaws::no_row))]
 pub fn row_after(row: JobRun, id: JobId) -> JobRun
     requires { IsTrue (fits row) }
-    ensures { (jobs : _) → IsRow jobs row → IsRow (changed_job (λ j. record j { finished = true }) id jobs) result }
+    ensures left { result.count ≡ row.count - up_to id row }
+    ensures row { (jobs : _) → IsRow jobs row → IsRow (changed_job (λ j. record j { finished = true }) id jobs) result }
 {
     let count = count_up_to(row, id);
     if count == row.count {
@@ -70,6 +74,17 @@ pub fn row_after(row: JobRun, id: JobId) -> JobRun
         ctx: row.ctx,
         first: row.first + count,
         count: row.count - count,
+    }
+}
+
+/// Returns the row of the last of `jobs` alone, if it isn't done.
+pub fn row_of_last(jobs: &[Job]) -> JobRun
+    ensures some { ends_open jobs.now ≡ true → 0 < result.count }
+    ensures row { IsRow jobs.now result }
+{
+    match jobs.split_last() {
+        Some((job, _)) => row_behind(NO_ROW, job),
+        None => NO_ROW,
     }
 }
 

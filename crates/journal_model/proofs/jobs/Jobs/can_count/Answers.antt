@@ -2,7 +2,6 @@ use Rattle.std.proofs.Common.{◌≡◌, false, take, drop, arith, subst}
 use Rattle.std.proofs.lemmas.Grind.{common_steps}
 use Rattle.std.specs.List.{list_any}
 use Rattle.journal_model.specs.rules.JobNames.{same_job}
-use Rattle.journal_model.specs.code.Jobs.{IsRow}
 use Rattle.journal_model.proofs.RowLaws.{left_between}
 use Rattle.journal_model.proofs.jobs.Jobs.can_count.Goals as goal
 

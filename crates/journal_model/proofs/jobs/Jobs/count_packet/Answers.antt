@@ -2,7 +2,7 @@ use Rattle.std.proofs.Common.{◌≡◌, ◌+◌, false, subst, take, drop}
 use Rattle.std.specs.List.{list_any}
 use Rattle.journal_model.specs.rules.JobNames.{same_job}
 use Rattle.journal_model.proofs.SplitJobs.{split_counted, bounded_counted, others_same}
-use Rattle.journal_model.proofs.RowLaws.{row_counted}
+use Rattle.journal_model.proofs.RowLaws.{row_counted, open_counted}
 use Rattle.journal_model.proofs.jobs.Jobs.count_packet.Goals as goal
 
 pub count_between-requires-clause-closed : goal.count_between-requires-clause-closed
@@ -16,4 +16,5 @@ invariant_of-self c = rw c.count_between.ensures (record {
   split = split_counted c.self.inside.all c.self.inside.closed c.args.id c.self.invariant.split;
   bounded = bounded_counted c.self.inside.all c.self.inside.greatest c.args.id c.self.invariant.bounded;
   end = row_counted c.self.inside.all c.self.inside.row c.args.id c.self.invariant.end;
+  some = λ h. c.self.invariant.some (open_counted c.args.id c.self.inside.all h);
 })
