@@ -17,7 +17,7 @@ use Rattle.program_edges.specs.Edges.{Edge, IsWritten, WasReadWhole}
 use Rattle.check_program.specs.declared.finding.Finding.{Finding}
 use Rattle.check_program.specs.declared.finding.Finding.TheVariants as finding
 use Rattle.check_program.specs.Finds.{AreAccepted, AreRejected, Finds, FindsIn, rejected_text, status_of, text_of}
-use Rattle.check_program.specs.Ends.{EndsChecked, broken, cut, nothing, told}
+use Rattle.check_program.specs.Ends.{EndsChecked, broken, cut, nothing, whole}
 use Rattle.check_program.specs.Exact.{AreInvalid, AreScriptAndReport, HaveScript, IsExact, ReportsAreValid, VerdictsAreExact, is_verdict}
 
 -- ---- bytes have one verdict
@@ -77,7 +77,7 @@ module _ (source sink : Edge) (bytes : Text) (left : source.before ≡ Some byte
       long refl (omega (arith, most, len))
 
   tells : (s : Status) → EndsChecked source sink s → is_verdict s ≡ true → Tells bytes sink s
-  tells s (told f h written) v = by_finding f h written v
+  tells s (whole f h written) v = by_finding f h written v
   tells s (broken f h front) v = cc
   tells s (cut f h front) v = cc
   tells s (nothing h same) v = cc

@@ -8,7 +8,7 @@ use Rattle.check_program.specs.Finds.{Finds, status_of, text_of}
 -- The status: that of what was found, where its text was written whole; else a write failed or memory ran out, and a prefix of the text was
 -- written, or nothing where memory ran out before.
 pub data EndsChecked (source sink : Edge) : Status → Type 0 where
-  told : (f : Finding) → Finds source f → IsWritten sink (text_of f) → EndsChecked source sink (status_of f)
+  whole : (f : Finding) → Finds source f → IsWritten sink (text_of f) → EndsChecked source sink (status_of f)
   broken : (f : Finding) → Finds source f → IsBroken sink (text_of f) → EndsChecked source sink status.WriteFault
   cut : (f : Finding) → Finds source f → IsCut sink (text_of f) → EndsChecked source sink status.NoMemory
   nothing : IsFaultless source → IsUntouched sink → EndsChecked source sink status.NoMemory

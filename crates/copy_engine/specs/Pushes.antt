@@ -21,7 +21,7 @@ packet_of pushed = slice_get pushed.packets pushed.ran
 
 -- the job that it waits for, among those of all usages
 abbrev pub wait_of : List Progress → Pushed → Option JobId
-wait_of line pushed = needed Read line pushed.waits
+wait_of timeline pushed = needed Read timeline pushed.waits
 
 -- the job after one more packet of it has run
 abbrev pub after_packet_of : Pushed → Pushed

@@ -103,13 +103,13 @@ impl Rings {
 
     /// Returns a job that the head waits for, as `FenceSet::need` names it among all usages. None means that the head is
     /// ready.
-    pub fn ready(&self, ctx: u32, line: &Timeline) -> Option<JobId>
+    pub fn ready(&self, ctx: u32, timeline: &Timeline) -> Option<JobId>
         requires known { ctx < length self.now }
-        requires line { length line.now ≡ length self.now }
+        requires timeline { length timeline.now ≡ length self.now }
         requires head { IsSome (head_of self.now ctx) }
-        ensures { result ≡ option_and_then (wait_of line.now) (head_of self.now ctx) }
+        ensures { result ≡ option_and_then (wait_of timeline.now) (head_of self.now ctx) }
     {
-        self.rings[ctx as usize].first()?.wait(line)
+        self.rings[ctx as usize].first()?.wait(timeline)
     }
 
     /// Returns the next packet of the head, if one is left.

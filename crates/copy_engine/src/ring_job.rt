@@ -62,11 +62,11 @@ impl RingJob {
     }
 
     /// Returns a job that this one waits for, or None where all of those are done.
-    pub(crate) fn wait(&self, line: &Timeline) -> Option<JobId>
-        requires { length self.now.waits ≡ length line.now }
-        ensures { result ≡ wait_of line.now self.now }
+    pub(crate) fn wait(&self, timeline: &Timeline) -> Option<JobId>
+        requires { length self.now.waits ≡ length timeline.now }
+        ensures { result ≡ wait_of timeline.now self.now }
     {
-        self.waits.need(Usage::Read, line)
+        self.waits.need(Usage::Read, timeline)
     }
 
     /// Returns the next packet of the job, if one is left.

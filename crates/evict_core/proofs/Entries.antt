@@ -26,11 +26,11 @@ use Rattle.journal_model.specs.rules.Search.{Step, step_of_crowded, why_of}
 use Rattle.journal_model.specs.rules.Next.{next}
 use Rattle.journal_model.specs.rules.Tasks.{stage_of, task_of}
 use Rattle.journal_model.specs.rules.Legal.{World, shown_step}
-use Rattle.room_state.specs.room_turns.Turns.{Kept, state_behind, world_behind}
-use Rattle.room_state.specs.room_turns.Searching.{BufferSearch, finds_choice, buffer_search_of, place_at_work, victim_for, victim_of}
-use Rattle.room_state.specs.room_turns.Turns.{entry_of}
-use Rattle.room_state.proofs.room_turns.Threads.{command_at, entry_is, need_is, next_at}
-use Rattle.room_state.proofs.room_turns.Finds.{crowded_next}
+use Rattle.room_state.specs.turns.Turns.{Kept, state_behind, world_behind}
+use Rattle.room_state.specs.turns.Searching.{BufferSearch, finds_choice, buffer_search_of, place_at_work, victim_for, victim_of}
+use Rattle.room_state.specs.turns.Turns.{entry_of}
+use Rattle.room_state.proofs.turns.Threads.{command_at, entry_is, need_is, next_at}
+use Rattle.room_state.proofs.turns.Finds.{crowded_next}
 use Rattle.evict_core.specs.Tasks.{lets_go}
 
 -- ---- searches

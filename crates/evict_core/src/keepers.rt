@@ -1,12 +1,12 @@
 ghost use Rattle.std.specs.Prelude.{◌≡◌, IfOk, option_map};
 ghost use Rattle.journal_model.specs.rules.Dry as words;
-ghost use Rattle.room_state.specs.room_turns.Turns.{state_behind};
+ghost use Rattle.room_state.specs.turns.Turns.{state_behind};
 ghost use Rattle.evict_core.specs.Rows as rows_of;
 
 use bo_table::Bo;
 use journal_model::{CauseRow, Causes, Script};
 use room_representation::Ghost;
-use room_state::room_turns::Rooms;
+use room_state::turns::Rooms;
 use state_words::{cause_of, intersects, reach_of, same_mem, target_of};
 use std::alloc::Global;
 use ttm_base::{BufId, Mem, NoMemory, Place, Span};

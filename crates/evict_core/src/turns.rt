@@ -4,19 +4,17 @@ ghost use Rattle.journal_model.specs.declared.entry.Kind.TheVariants as kind_wor
 ghost use Rattle.journal_model.specs.declared.state.Stage.TheVariants as stage;
 ghost use Rattle.journal_model.specs.declared.state.Task.TheVariants as task;
 ghost use Rattle.journal_model.specs.rules.Tasks.{stage_of, task_of};
-ghost use Rattle.room_state.specs.room_turns.Turns.{state_behind};
-ghost use Rattle.room_state.specs.declared.room_turns.Step.TheVariants as step_words;
-ghost use Rattle.room_state.specs.room_turns.Searching.{buffer_search_of, finds_choice, victim_of};
-ghost use Rattle.room_state.specs.room_turns.Turns.{after_step, entry_of, step_of};
-ghost use Rattle.room_state.specs.room_turns.BufferSearches.{seen};
+ghost use Rattle.room_state.specs.turns.Turns.{state_behind};
+ghost use Rattle.room_state.specs.declared.turns.Step.TheVariants as step_words;
+ghost use Rattle.room_state.specs.turns.Searching.{buffer_search_of, finds_choice, victim_of};
+ghost use Rattle.room_state.specs.turns.Turns.{after_step, entry_of, step_of};
+ghost use Rattle.room_state.specs.turns.BufferSearches.{seen};
 ghost use Rattle.evict_core.specs.Tasks.{is_skip, lets_go};
 
 use crate::keepers::{causes, ghost_in};
 use crate::victims::victim;
 use journal_model::{DryWhy, Kind, Task};
-use room_state::room_turns::{
-    BufferSearch, Rooms, Step, buffer_search_at_work, make, place_at_work,
-};
+use room_state::turns::{BufferSearch, Rooms, Step, buffer_search_at_work, make, place_at_work};
 use state_words::{is_long_enough, why_of};
 use std::alloc::Global;
 use ttm_base::{Actor, BufId, Need, NoMemory};

@@ -1,10 +1,10 @@
 ghost use Rattle.std.specs.Prelude.{◌≡◌, ◌&&◌, not, find};
 ghost use Rattle.journal_model.specs.rules.Dry as words;
-ghost use Rattle.room_state.specs.room_turns.Turns.{state_behind};
+ghost use Rattle.room_state.specs.turns.Turns.{state_behind};
 ghost use Rattle.evict_core.specs.Walks as walks;
 
 use bo_table::Bo;
-use room_state::room_turns::{Rooms, Walk};
+use room_state::turns::{Rooms, Walk};
 use state_words::{has_buffer, intersects, is_loose, reach_of, same_mem};
 use ttm_base::{BufId, Mem, Place, Span};
 

@@ -138,22 +138,22 @@ abbrev num_of : Usage → List Latest → ℕ → ℕ
 num_of how set ctx = latest_num (up_to how (kept_of set ctx))
 
 abbrev done_of : List Progress → ℕ → ℕ
-done_of line ctx = (progress_of line ctx).done
+done_of timeline ctx = (progress_of timeline ctx).done
 
 picked_step : (b : Bool) (f : ℕ → JobId) (ctx : ℕ) (found : Option ℕ) (rest : Option JobId) → option_map f found ≡ rest
     → option_map f (cond (not b) (Some ctx) found) ≡ cond b rest (Some (f ctx))
 picked_step true f ctx found rest e = e
 picked_step false f ctx found rest e = refl
 
-picked_from : (how : Usage) (line : List Progress) (set : List Latest) (ctx n : ℕ)
-    → option_map (latest_job how set) (find (is_open how line set) (range_with_len ctx n)) ≡ pick (num_of how set) (done_of line) ctx n
-picked_from how line set ctx zero = refl
-picked_from how line set ctx (suc n) =
-    picked_step (nat_le (num_of how set ctx) (done_of line ctx)) (latest_job how set) ctx (find (is_open how line set) (range_with_len (ctx + 1) n))
-    (pick (num_of how set) (done_of line) (ctx + 1) n) (picked_from how line set (ctx + 1) n)
+picked_from : (how : Usage) (timeline : List Progress) (set : List Latest) (ctx n : ℕ)
+    → option_map (latest_job how set) (find (is_open how timeline set) (range_with_len ctx n)) ≡ pick (num_of how set) (done_of timeline) ctx n
+picked_from how timeline set ctx zero = refl
+picked_from how timeline set ctx (suc n) =
+    picked_step (nat_le (num_of how set ctx) (done_of timeline ctx)) (latest_job how set) ctx (find (is_open how timeline set) (range_with_len (ctx + 1) n))
+    (pick (num_of how set) (done_of timeline) (ctx + 1) n) (picked_from how timeline set (ctx + 1) n)
 
-picked : (how : Usage) (line : List Progress) (set : List Latest) → needed how line set ≡ pick (num_of how set) (done_of line) 0 (length set)
-picked how line set = picked_from how line set 0 (length set)
+picked : (how : Usage) (timeline : List Progress) (set : List Latest) → needed how timeline set ≡ pick (num_of how set) (done_of timeline) 0 (length set)
+picked how timeline set = picked_from how timeline set 0 (length set)
 
 -- the latest number where a job is added
 num_covered : (how u : Usage) (old : Latest) (num : ℕ) → covers how u ≡ true → latest_num (up_to how (later old (only u num))) ≡ max (latest_num (up_to how old)) num
@@ -199,27 +199,27 @@ same_num false now num own k e g f =
     let apart : k ≢ own = grind (arith, nat_tests) in
     f k apart
 
-added_needs : (b : Bool) (how : Usage) (line : List Progress) (set : List Latest) (i : JobId) (u : Usage) → covers how u ≡ b → i.ctx < length set
-    → needed how line (added set i u) ≡ cond (b && not (is_signalled line i)) (Some (named_first i (needed how line set))) (needed how line set)
-added_needs true how line set i u e h =
+added_needs : (b : Bool) (how : Usage) (timeline : List Progress) (set : List Latest) (i : JobId) (u : Usage) → covers how u ≡ b → i.ctx < length set
+    → needed how timeline (added set i u) ≡ cond (b && not (is_signalled timeline i)) (Some (named_first i (needed how timeline set))) (needed how timeline set)
+added_needs true how timeline set i u e h =
     let own : num_of how (added set i u) i.ctx ≡ max (num_of how set i.ctx) i.num =
     ap (λ (x : Latest). latest_num (up_to how x)) (kept_own set i.ctx (later (kept_of set i.ctx) (only u i.num)) h) ∙ num_covered how u (kept_of set i.ctx) i.num e in
     let others : (k : ℕ) → k ≢ i.ctx → num_of how (added set i u) k ≡ num_of how set k =
     λ k ne. ap (λ (x : Latest). latest_num (up_to how x)) (kept_other set i.ctx k (later (kept_of set i.ctx) (only u i.num)) ne) in
-    picked how line (added set i u)
-    ∙ ap (λ (n : ℕ). pick (num_of how (added set i u)) (done_of line) 0 n) (length-added set i u)
-    ∙ pick_joined (num_of how set) (num_of how (added set i u)) (done_of line) i.ctx i.num 0 (length set) others own (omega arith) (omega arith)
-    ∙ ap (joined (is_signalled line i) i) (sym (picked how line set))
-    ∙ as_joined (is_signalled line i) i (needed how line set)
-added_needs false how line set i u e h =
+    picked how timeline (added set i u)
+    ∙ ap (λ (n : ℕ). pick (num_of how (added set i u)) (done_of timeline) 0 n) (length-added set i u)
+    ∙ pick_joined (num_of how set) (num_of how (added set i u)) (done_of timeline) i.ctx i.num 0 (length set) others own (omega arith) (omega arith)
+    ∙ ap (joined (is_signalled timeline i) i) (sym (picked how timeline set))
+    ∙ as_joined (is_signalled timeline i) i (needed how timeline set)
+added_needs false how timeline set i u e h =
     let own : num_of how (added set i u) i.ctx ≡ num_of how set i.ctx =
     ap (λ (x : Latest). latest_num (up_to how x)) (kept_own set i.ctx (later (kept_of set i.ctx) (only u i.num)) h) ∙ num_not_covered how u (kept_of set i.ctx) i.num e in
     let others : (k : ℕ) → k ≢ i.ctx → num_of how (added set i u) k ≡ num_of how set k =
     λ k ne. ap (λ (x : Latest). latest_num (up_to how x)) (kept_other set i.ctx k (later (kept_of set i.ctx) (only u i.num)) ne) in
-    picked how line (added set i u)
-    ∙ ap (λ (n : ℕ). pick (num_of how (added set i u)) (done_of line) 0 n) (length-added set i u)
-    ∙ pick_same (num_of how (added set i u)) (num_of how set) (done_of line) 0 (length set) (λ k l. same_num (eqb k i.ctx) (num_of how (added set i u)) (num_of how set) i.ctx k refl own others)
-    ∙ sym (picked how line set)
+    picked how timeline (added set i u)
+    ∙ ap (λ (n : ℕ). pick (num_of how (added set i u)) (done_of timeline) 0 n) (length-added set i u)
+    ∙ pick_same (num_of how (added set i u)) (num_of how set) (done_of timeline) 0 (length set) (λ k l. same_num (eqb k i.ctx) (num_of how (added set i u)) (num_of how set) i.ctx k refl own others)
+    ∙ sym (picked how timeline set)
 
 -- ---- one fence after the other
 
@@ -240,14 +240,14 @@ step : (b : Bool) (f : Fence) (o : Option JobId) (fences : List Fence)
 step true f o fences = step_true f o fences
 step false f o fences = refl
 
-after_needs : (how : Usage) (line : List Progress) (set : List Latest) (fences : List Fence) → AreKnown (length set) fences
-    → needed how line (after_adds set fences) ≡ named_with (needed how line set) (named_job (waiting how line fences))
-after_needs how line set [] h = named_with_none (needed how line set)
-after_needs how line set (f ∷ fences) h =
+after_needs : (how : Usage) (timeline : List Progress) (set : List Latest) (fences : List Fence) → AreKnown (length set) fences
+    → needed how timeline (after_adds set fences) ≡ named_with (needed how timeline set) (named_job (waiting how timeline fences))
+after_needs how timeline set [] h = named_with_none (needed how timeline set)
+after_needs how timeline set (f ∷ fences) h =
     let known : AreKnown (length (added set f.job f.usage)) fences = rw (length-added set f.job f.usage) h.1 in
-    after_needs how line (added set f.job f.usage) fences known
-    ∙ ap (λ (o : Option JobId). named_with o (named_job (waiting how line fences))) (added_needs (covers how f.usage) how line set f.job f.usage refl h.0)
-    ∙ step (is_waited_for how line f) f (needed how line set) (filter (is_waited_for how line) fences)
+    after_needs how timeline (added set f.job f.usage) fences known
+    ∙ ap (λ (o : Option JobId). named_with o (named_job (waiting how timeline fences))) (added_needs (covers how f.usage) how timeline set f.job f.usage refl h.0)
+    ∙ step (is_waited_for how timeline f) f (needed how timeline set) (filter (is_waited_for how timeline) fences)
 
 -- ---- from an empty set
 
@@ -261,18 +261,18 @@ num_of_nothing Kernel = refl
 num_of_nothing Write = refl
 num_of_nothing Read = refl
 
-nothing_needs : (how : Usage) (line : List Progress) (contexts : ℕ) → needed how line (replicate contexts nothing_kept) ≡ None
-nothing_needs how line contexts =
-    picked how line (replicate contexts nothing_kept)
-    ∙ pick_none (num_of how (replicate contexts nothing_kept)) (done_of line) 0 (length (replicate contexts nothing_kept))
+nothing_needs : (how : Usage) (timeline : List Progress) (contexts : ℕ) → needed how timeline (replicate contexts nothing_kept) ≡ None
+nothing_needs how timeline contexts =
+    picked how timeline (replicate contexts nothing_kept)
+    ∙ pick_none (num_of how (replicate contexts nothing_kept)) (done_of timeline) 0 (length (replicate contexts nothing_kept))
     (λ k. ap (λ (x : Latest). latest_num (up_to how x)) (kept_nothing contexts k) ∙ num_of_nothing how)
 
-pub set_needs : (how : Usage) (line : List Progress) (contexts : ℕ) (fences : List Fence) → AreKnown contexts fences
-    → needed how line (set_of contexts fences) ≡ named_job (waiting how line fences)
-set_needs how line contexts fences h =
+pub set_needs : (how : Usage) (timeline : List Progress) (contexts : ℕ) (fences : List Fence) → AreKnown contexts fences
+    → needed how timeline (set_of contexts fences) ≡ named_job (waiting how timeline fences)
+set_needs how timeline contexts fences h =
     let known : AreKnown (length (replicate contexts nothing_kept)) fences = rw (length-replicate contexts nothing_kept) h in
-    after_needs how line (replicate contexts nothing_kept) fences known
-    ∙ ap (λ (o : Option JobId). named_with o (named_job (waiting how line fences))) (nothing_needs how line contexts)
+    after_needs how timeline (replicate contexts nothing_kept) fences known
+    ∙ ap (λ (o : Option JobId). named_with o (named_job (waiting how timeline fences))) (nothing_needs how timeline contexts)
 
 -- none is named only where there is none
 pub named_none : (jobs : List JobId) → (named_job jobs ≡ None) ↔ (jobs ≡ [])

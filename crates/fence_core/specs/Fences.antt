@@ -54,8 +54,8 @@ latest_job how set ctx = record { ctx = ctx; num = latest_num (up_to how (kept_o
 
 -- whether such a job isn't signalled, which is so exactly where the latest one isn't
 abbrev pub is_open : Usage → List Progress → List Latest → ℕ → Bool
-is_open how line set ctx = not (is_signalled line (latest_job how set ctx))
+is_open how timeline set ctx = not (is_signalled timeline (latest_job how set ctx))
 
 -- the job to wait for: the latest one of the first context that has a job which isn't signalled
 abbrev pub needed : Usage → List Progress → List Latest → Option JobId
-needed how line set = option_map (latest_job how set) (find (is_open how line set) (range_with_len 0 (length set)))
+needed how timeline set = option_map (latest_job how set) (find (is_open how timeline set) (range_with_len 0 (length set)))

@@ -39,8 +39,8 @@ is_covered how f = covers how f.usage
 
 -- whether the fence has that usage or a lower one, and its job isn't signalled
 abbrev pub is_waited_for : Usage → List Progress → Fence → Bool
-is_waited_for how line f = is_covered how f && not (is_signalled line f.job)
+is_waited_for how timeline f = is_covered how f && not (is_signalled timeline f.job)
 
 -- the jobs of that usage and the lower ones that aren't signalled
 abbrev pub waiting : Usage → List Progress → List Fence → List JobId
-waiting how line fences = map (λ f. f.job) (filter (is_waited_for how line) fences)
+waiting how timeline fences = map (λ f. f.job) (filter (is_waited_for how timeline) fences)

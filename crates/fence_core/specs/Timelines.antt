@@ -9,16 +9,16 @@ no_jobs = record { emitted = 0; done = 0 }
 
 -- how far a context is
 abbrev pub progress_of : List Progress → ℕ → Progress
-progress_of line ctx = slice_index_or line ctx no_jobs
+progress_of timeline ctx = slice_index_or timeline ctx no_jobs
 
 -- the contexts after one more job was emitted in a context
 abbrev pub with_emitted : List Progress → ℕ → List Progress
-with_emitted line ctx = slice_set line ctx (record (progress_of line ctx) { emitted = (progress_of line ctx).emitted + 1 })
+with_emitted timeline ctx = slice_set timeline ctx (record (progress_of timeline ctx) { emitted = (progress_of timeline ctx).emitted + 1 })
 
 -- the contexts after one more job is done in a context
 abbrev pub with_done : List Progress → ℕ → List Progress
-with_done line ctx = slice_set line ctx (record (progress_of line ctx) { done = (progress_of line ctx).done + 1 })
+with_done timeline ctx = slice_set timeline ctx (record (progress_of timeline ctx) { done = (progress_of timeline ctx).done + 1 })
 
 -- whether the job is done
 abbrev pub is_signalled : List Progress → JobId → Bool
-is_signalled line job = nat_le job.num (progress_of line job.ctx).done
+is_signalled timeline job = nat_le job.num (progress_of timeline job.ctx).done

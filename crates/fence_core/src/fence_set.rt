@@ -100,12 +100,12 @@ fn latest_job(kept: &[Latest], usage: Usage, ctx: u32) -> JobId
 
 // Returns whether some job of `usage` or a lower usage in the context `ctx` isn't done, which is so exactly where the latest
 // one isn't.
-fn is_open(kept: &[Latest], usage: Usage, line: &Timeline, ctx: u32) -> bool
+fn is_open(kept: &[Latest], usage: Usage, timeline: &Timeline, ctx: u32) -> bool
     requires kept { ctx < length kept.now }
-    requires line { ctx < length line.now }
-    ensures { result ≡ words.is_open usage line.now kept.now ctx }
+    requires timeline { ctx < length timeline.now }
+    ensures { result ≡ words.is_open usage timeline.now kept.now ctx }
 {
-    !line.signalled(latest_job(kept, usage, ctx))
+    !timeline.signalled(latest_job(kept, usage, ctx))
 }
 
 /// The jobs that use a buffer, by usage. The set keeps the latest job of each context and usage: where that one is done, so
@@ -162,12 +162,12 @@ impl FenceSet {
 
     /// Returns a job to wait for, among those of `usage` and the lower usages that aren't done: the latest one of the first
     /// context that has one. None means that all of them are done.
-    pub fn need(&self, usage: Usage, line: &Timeline) -> Option<JobId>
-        requires { length self.now ≡ length line.now }
-        ensures { result ≡ needed usage line.now self.now }
+    pub fn need(&self, usage: Usage, timeline: &Timeline) -> Option<JobId>
+        requires { length self.now ≡ length timeline.now }
+        ensures { result ≡ needed usage timeline.now self.now }
     {
         for ctx in 0..self.contexts() {
-            if is_open(&self.kept, usage, line, ctx) {
+            if is_open(&self.kept, usage, timeline, ctx) {
                 return Some(latest_job(&self.kept, usage, ctx));
             }
         }
@@ -177,12 +177,12 @@ impl FenceSet {
     /// Tells that the set speaks for every job that was added to it since it was empty: it needs none exactly where each job
     /// of `usage` or a lower one is done, else it needs the one that is named among those. The call does nothing: its
     /// contract is the law.
-    pub fn need_of_all(&self, usage: Usage, line: &Timeline)
-        ensures none { (fences : List Fence) → self.now ≡ set_of (length self.now) fences → AreKnown (length self.now) fences → (needed usage line.now self.now ≡ None) ↔ (waiting usage line.now fences ≡ []) }
-        ensures job { (fences : List Fence) → self.now ≡ set_of (length self.now) fences → AreKnown (length self.now) fences → needed usage line.now self.now ≡ named_job (waiting usage line.now fences) }
+    pub fn need_of_all(&self, usage: Usage, timeline: &Timeline)
+        ensures none { (fences : List Fence) → self.now ≡ set_of (length self.now) fences → AreKnown (length self.now) fences → (needed usage timeline.now self.now ≡ None) ↔ (waiting usage timeline.now fences ≡ []) }
+        ensures job { (fences : List Fence) → self.now ≡ set_of (length self.now) fences → AreKnown (length self.now) fences → needed usage timeline.now self.now ≡ named_job (waiting usage timeline.now fences) }
     {
         let _usage = usage;
-        let _contexts = line.contexts();
+        let _contexts = timeline.contexts();
     }
 
     /// Tells how the set follows the jobs that were added: the set of some jobs becomes that of one more after `add`, that

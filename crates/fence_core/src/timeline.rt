@@ -34,7 +34,7 @@ impl Model for Timeline {
 impl Timeline {
     /// Returns a timeline of `contexts` contexts, from which no job was emitted.
     pub fn new(alloc: Global, contexts: u32) -> Result<Timeline, NoMemory>
-        ensures { IfOk result (λ line. line ≡ replicate contexts no_jobs) }
+        ensures { IfOk result (λ timeline. timeline ≡ replicate contexts no_jobs) }
     {
         let none = Progress {
             emitted: 0,

@@ -12,8 +12,8 @@ use Rattle.journal_model.specs.rules.Legal.{IsLegal, state_of}
 use Rattle.journal_model.specs.scripts.ScriptRules.{is_script}
 use Rattle.journal_model.specs.rules.Tasks.{task_of}
 use Rattle.laws.proofs.law_sound.Bufs.{same_self}
-use Rattle.room_state.specs.room_turns.Acting.{command_in, frees, free_due}
-use Rattle.room_state.proofs.room_turns.Works.{acted_has, has_declared}
+use Rattle.room_state.specs.turns.Acting.{command_in, frees, free_due}
+use Rattle.room_state.proofs.turns.Works.{acted_has, has_declared}
 
 -- the command itself is at work
 due_acts : (script : Script) (s : State) (t : ℕ) → free_due script s t ≡ true → task_of script s t ≡ task.Act

@@ -2,13 +2,13 @@ ghost use Rattle.std.specs.Prelude.{◌≡◌, ◌<◌, Ok, true, IfOk, OnOk, On
 ghost use Rattle.ttm_base.specs.declared.Actor.TheVariants as actor;
 ghost use Rattle.journal_model.specs.declared.script.Command.TheVariants as command;
 ghost use Rattle.journal_model.specs.rules.Next.{step_of_act};
-ghost use Rattle.room_state.specs.room_turns.Turns.{state_behind};
-ghost use Rattle.room_state.specs.declared.room_turns.Step.TheVariants as answer;
-ghost use Rattle.room_state.specs.room_turns.Acting.{free_due};
-ghost use Rattle.room_state.specs.room_turns.Turns.{after_step, entry_of, step_of};
+ghost use Rattle.room_state.specs.turns.Turns.{state_behind};
+ghost use Rattle.room_state.specs.declared.turns.Step.TheVariants as answer;
+ghost use Rattle.room_state.specs.turns.Acting.{free_due};
+ghost use Rattle.room_state.specs.turns.Turns.{after_step, entry_of, step_of};
 
 use journal_model::{Command, Kind, Task};
-use room_state::room_turns::{Rooms, Step, make};
+use room_state::turns::{Rooms, Step, make};
 use ttm_base::{Actor, BufId, NoMemory, Usage};
 
 /// Returns whether a Free of `thread` is due: its command frees a buffer and is at work, since that buffer is held. Takes time as `Rooms::task`

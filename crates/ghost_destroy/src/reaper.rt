@@ -1,13 +1,13 @@
 ghost use Rattle.std.specs.Prelude.{◌≡◌, IfOk, OnOk, OnErr};
 ghost use Rattle.ttm_base.specs.declared.Actor.TheVariants as actor;
 ghost use Rattle.journal_model.specs.rules.Next.{step_of_reaper};
-ghost use Rattle.room_state.specs.room_turns.Turns.{state_behind};
-ghost use Rattle.room_state.specs.room_turns.Acting.{made_unless};
-ghost use Rattle.room_state.specs.room_turns.Turns.{after_step, entry_of, step_of};
+ghost use Rattle.room_state.specs.turns.Turns.{state_behind};
+ghost use Rattle.room_state.specs.turns.Acting.{made_unless};
+ghost use Rattle.room_state.specs.turns.Turns.{after_step, entry_of, step_of};
 ghost use Rattle.ghost_destroy.specs.Ends.{reaper_needs};
 
 use journal_model::Kind;
-use room_state::room_turns::{Rooms, Step, turn};
+use room_state::turns::{Rooms, Step, turn};
 use ttm_base::{Actor, Need, NoMemory};
 
 /// Returns the entry that ends the first ghost, once the job that it waits for is done; until then, that job.

@@ -18,11 +18,11 @@ use Rattle.journal_model.specs.scripts.ScriptRules.{is_script}
 use Rattle.journal_model.specs.rules.Search.{Step}
 use Rattle.journal_model.specs.rules.Tasks.{task_of, stage_of}
 use Rattle.laws.specs.lemma_bytes_told.Told.{IsThere}
-use Rattle.room_state.specs.room_turns.Turns.{Kept, state_behind}
-use Rattle.room_state.specs.room_turns.Acting.{is_untake}
-use Rattle.room_state.specs.room_turns.Turns.{entry_of}
-use Rattle.room_state.proofs.room_turns.Threads.{command_at, entry_is, next_at}
-use Rattle.room_state.proofs.room_turns.Works.{given_has, has_declared, has_live, unbound_has}
+use Rattle.room_state.specs.turns.Turns.{Kept, state_behind}
+use Rattle.room_state.specs.turns.Acting.{is_untake}
+use Rattle.room_state.specs.turns.Turns.{entry_of}
+use Rattle.room_state.proofs.turns.Threads.{command_at, entry_is, next_at}
+use Rattle.room_state.proofs.turns.Works.{given_has, has_declared, has_live, unbound_has}
 
 module _ (k : Kept) (t : ℕ) where
   abbrev s : State

@@ -14,12 +14,12 @@ use Rattle.journal_model.specs.declared.entry.Kind.TheVariants as kind
 use Rattle.journal_model.specs.rules.State.{course}
 use Rattle.journal_model.specs.rules.Choice.{choice}
 use Rattle.journal_model.specs.rules.Search.{first_choice, step_of_place_search}
-use Rattle.room_state.specs.room_turns.Turns.{Kept, state_behind}
-use Rattle.room_state.specs.room_turns.Searching.{BufferSearch, finds_choice, has_choice, buffer_search_of, place_at_work}
-use Rattle.room_state.specs.room_turns.Turns.{entry_of}
-use Rattle.room_state.proofs.room_turns.Threads.{entry_is}
-use Rattle.room_state.proofs.room_turns.BufferSearched.{buffer_searcher_next}
-use Rattle.room_state.proofs.room_turns.Finds.{takes_first, takes_forced, takes_last}
+use Rattle.room_state.specs.turns.Turns.{Kept, state_behind}
+use Rattle.room_state.specs.turns.Searching.{BufferSearch, finds_choice, has_choice, buffer_search_of, place_at_work}
+use Rattle.room_state.specs.turns.Turns.{entry_of}
+use Rattle.room_state.proofs.turns.Threads.{entry_is}
+use Rattle.room_state.proofs.turns.BufferSearched.{buffer_searcher_next}
+use Rattle.room_state.proofs.turns.Finds.{takes_first, takes_forced, takes_last}
 use Rattle.move_pipeline.specs.Finds.{found, found_at, or_else, tried_at}
 
 -- ---- place by place

@@ -10,7 +10,7 @@ use Rattle.journal_model.specs.declared.script.Script.{Script}
 use Rattle.journal_model.specs.declared.state.State.{State}
 use Rattle.journal_model.specs.rules.Choice.{choice}
 use Rattle.journal_model.specs.rules.Search.{first_choice}
-use Rattle.room_state.specs.room_turns.Searching.{BufferSearch, place_at_work}
+use Rattle.room_state.specs.turns.Searching.{BufferSearch, place_at_work}
 
 -- the memory type and the pages of a place with a choice
 abbrev pub found_at : Script → State → BufId → Place → Option (Mem × List Span)

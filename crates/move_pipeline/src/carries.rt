@@ -6,13 +6,13 @@ ghost use Rattle.journal_model.specs.declared.state.Task.TheVariants as task;
 ghost use Rattle.journal_model.specs.rules.PageSteps as words;
 ghost use Rattle.journal_model.specs.rules.State as state;
 ghost use Rattle.journal_model.specs.rules.Tasks.{task_of, stage_of};
-ghost use Rattle.room_state.specs.room_turns.Turns.{state_behind};
-ghost use Rattle.room_state.specs.declared.room_turns.Step.TheVariants as answer;
-ghost use Rattle.room_state.specs.room_turns.Acting.{is_untake, job_before_unbind, made_unless};
-ghost use Rattle.room_state.specs.room_turns.Turns.{after_step, entry_of, step_of};
+ghost use Rattle.room_state.specs.turns.Turns.{state_behind};
+ghost use Rattle.room_state.specs.declared.turns.Step.TheVariants as answer;
+ghost use Rattle.room_state.specs.turns.Acting.{is_untake, job_before_unbind, made_unless};
+ghost use Rattle.room_state.specs.turns.Turns.{after_step, entry_of, step_of};
 
 use journal_model::{Kind, Left, Task};
-use room_state::room_turns::{Rooms, Step, make};
+use room_state::turns::{Rooms, Step, make};
 use state_words::{is_caught, target_to_untake};
 use ttm_base::{Actor, BufId, Mem, Need, NoMemory, Usage};
 

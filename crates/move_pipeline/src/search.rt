@@ -4,15 +4,15 @@ ghost use Rattle.ttm_base.specs.declared.Actor.TheVariants as actor;
 ghost use Rattle.journal_model.specs.declared.state.Stage.TheVariants as stage;
 ghost use Rattle.journal_model.specs.rules.Search.{first_choice};
 ghost use Rattle.journal_model.specs.rules.Tasks.{stage_of, task_of};
-ghost use Rattle.room_state.specs.room_turns.Turns.{state_behind};
-ghost use Rattle.room_state.specs.declared.room_turns.Step.TheVariants as step_words;
-ghost use Rattle.room_state.specs.room_turns.Searching.{buffer_search_of, finds_choice};
-ghost use Rattle.room_state.specs.room_turns.Turns.{after_step, entry_of, step_of};
-ghost use Rattle.room_state.specs.room_turns.BufferSearches.{list_of, seen};
+ghost use Rattle.room_state.specs.turns.Turns.{state_behind};
+ghost use Rattle.room_state.specs.declared.turns.Step.TheVariants as step_words;
+ghost use Rattle.room_state.specs.turns.Searching.{buffer_search_of, finds_choice};
+ghost use Rattle.room_state.specs.turns.Turns.{after_step, entry_of, step_of};
+ghost use Rattle.room_state.specs.turns.BufferSearches.{list_of, seen};
 ghost use Rattle.move_pipeline.specs.Finds as words;
 
 use journal_model::Kind;
-use room_state::room_turns::{
+use room_state::turns::{
     BufferSearch, Rooms, buffer_search_at_work, make, place_at, place_at_work, place_count,
 };
 use ttm_base::{Actor, BufId, FlaggedPlace, Mem, NoMemory, Place, Spans};

@@ -5,7 +5,7 @@ use Rattle.std.proofs.lemmas.Grind.{common_steps}
 use Rattle.ttm_base.specs.declared.Op.{Op}
 use Rattle.ttm_base.specs.declared.Op.TheVariants as op
 use Rattle.ttm_base.specs.declared.Packet.{Packet}
-use Rattle.ttm_base.specs.Cutting.{Piece, pieces_from, room}
+use Rattle.ttm_base.specs.Cutting.{Piece, pieces_from, until_border}
 
 -- two amounts of fuel that suffice give the same
 enough : (size : ℕ → ℕ) → ((at : ℕ) → 0 < size at) → (at len fuel more : ℕ) → len ≤ fuel → len ≤ more → pieces_from size at len fuel ≡ pieces_from size at len more
@@ -34,30 +34,30 @@ pieces_step size some at (suc left) h =
     ap (λ rest. first ∷ rest) (enough size some (at + n) (suc left - n) left (suc left - n) less all)
 
 -- at each place of an operation at least a byte may be done
-pub room_some : (o : Op) (at : ℕ) → 0 < room o at
+pub room_some : (o : Op) (at : ℕ) → 0 < until_border o at
 room_some (op.Fill dst off len byte) at = omega arith
 room_some (op.Copy dst doff src soff len) at = omega arith
 room_some (op.Xor dst doff src soff len) at = omega arith
 room_some (op.Probe src off len) at = omega arith
 
 -- a packet more, and those of the bytes left
-pub cut_more : (f : Piece → Packet) (o : Op) (at len n : ℕ) (packets : List Packet) → at < len → n ≡ min (room o at) (len - at)
-    → (packets ++ f (record { at = at; len = n }) ∷ []) ++ map f (pieces_from (room o) (at + n) (len - (at + n)) (len - (at + n)))
-    ≡ packets ++ map f (pieces_from (room o) at (len - at) (len - at))
+pub cut_more : (f : Piece → Packet) (o : Op) (at len n : ℕ) (packets : List Packet) → at < len → n ≡ min (until_border o at) (len - at)
+    → (packets ++ f (record { at = at; len = n }) ∷ []) ++ map f (pieces_from (until_border o) (at + n) (len - (at + n)) (len - (at + n)))
+    ≡ packets ++ map f (pieces_from (until_border o) at (len - at) (len - at))
 cut_more f o at len n packets h e =
     let left : 0 < len - at = omega arith in
-    let step = pieces_step (room o) (room_some o) at (len - at) left in
-    let same : min (len - at) (room o at) ≡ n = omega arith in
+    let step = pieces_step (until_border o) (room_some o) at (len - at) left in
+    let same : min (len - at) (until_border o at) ≡ n = omega arith in
     let less : len - at - n ≡ len - (at + n) = omega arith in
     grind (arith, common_steps, step, same, less)
 
 -- one piece more, and those of the bytes left
-pub count_more : (o : Op) (at len n : ℕ) → at < len → n ≡ min (room o at) (len - at)
-    → 1 + length (pieces_from (room o) (at + n) (len - (at + n)) (len - (at + n)))
-    ≡ length (pieces_from (room o) at (len - at) (len - at))
+pub count_more : (o : Op) (at len n : ℕ) → at < len → n ≡ min (until_border o at) (len - at)
+    → 1 + length (pieces_from (until_border o) (at + n) (len - (at + n)) (len - (at + n)))
+    ≡ length (pieces_from (until_border o) at (len - at) (len - at))
 count_more o at len n h e =
     let left : 0 < len - at = omega arith in
-    let step = pieces_step (room o) (room_some o) at (len - at) left in
-    let same : min (len - at) (room o at) ≡ n = omega arith in
+    let step = pieces_step (until_border o) (room_some o) at (len - at) left in
+    let same : min (len - at) (until_border o at) ≡ n = omega arith in
     let less : len - at - n ≡ len - (at + n) = omega arith in
     grind (arith, common_steps, step, same, less)

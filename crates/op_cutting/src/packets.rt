@@ -3,7 +3,7 @@ ghost use Rattle.ttm_base.specs.Cutting as words;
 ghost use Rattle.ttm_base.specs.Cutting.{PageMap};
 
 use crate::lists::PacketList;
-use crate::pieces::{PAGE, op_len, room};
+use crate::pieces::{PAGE, op_len, until_border};
 use ttm_base::{BufId, NoMemory, Op, Packet, PagePlace};
 
 /// The names by which packets call the pages of buffers.
@@ -87,7 +87,7 @@ fn push_packets<N: PageNames, L: PacketList>(
     let len = op_len(op);
     let mut at = 0;
     while at < len {
-        let n = room(op, at).min(len - at);
+        let n = until_border(op, at).min(len - at);
         packets.add(packet_of(names, op, at, n))?;
         at += n;
     }

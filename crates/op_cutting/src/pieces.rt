@@ -16,8 +16,8 @@ fn to_border(off: u32, at: u32) -> u32
 }
 
 /// Returns how many bytes of an operation one packet can take from byte `at` on.
-pub fn room(op: &Op, at: u32) -> u32
-    ensures value { result ≡ words.room op.now at }
+pub fn until_border(op: &Op, at: u32) -> u32
+    ensures value { result ≡ words.until_border op.now at }
     ensures some { 0 < result }
 {
     match op {
@@ -46,7 +46,7 @@ pub fn packet_count(op: &Op) -> u32
     let mut at = 0;
     let mut count = 0;
     while at < len {
-        at += room(op, at).min(len - at);
+        at += until_border(op, at).min(len - at);
         count += 1;
     }
     count

@@ -16,7 +16,7 @@ use Rattle.journal_model.specs.rules.Holds.{live_buffers, live_entry, held_spans
 use Rattle.journal_model.specs.statements.Account as model
 use Rattle.journal_model.specs.statements.Account.{account_of, frame_account, slot_account, total, are_distinct, has_accounts}
 use Rattle.page_accounts.specs.declared.accounts.Account.{Account}
-use Rattle.page_accounts.specs.Accounts.{AreAccountsOf, told}
+use Rattle.page_accounts.specs.Accounts.{AreAccountsOf, as_account}
 use Rattle.page_accounts.specs.Counting.{AreSmall, most, closed, closed_account}
 use Rattle.page_accounts.specs.Amounts.{Holding, Pages, Targets, Frames, Slots, amount, amount_where_live, amount_of_ghost, counted}
 
@@ -33,16 +33,16 @@ live_sum what k (Some x ∷ buffers) =
 
 -- an account whose parts make the size is what is counted and closed
 account_is : (a : model.Account) (size live target left : ℕ) → total a ≡ size → size < 2 ^ 32 → live ≡ a.live → target ≡ a.target → left ≡ a.ghost →
-    told (closed_account size (record { free = 0; live = min live most; target = min target most; ghosts = min left most })) ≡ a
+    as_account (closed_account size (record { free = 0; live = min live most; target = min target most; ghosts = min left most })) ≡ a
 account_is a size live target left t s l k g =
     let of : ℕ → ℕ → ℕ → ℕ → model.Account = λ n m j i. record { free = n; live = m; target = j; ghost = i } in
     let e1 : min live most ≡ a.live = grind (arith, nat_tests) in
     let e2 : min target most ≡ a.target = grind (arith, nat_tests) in
     let e3 : min left most ≡ a.ghost = grind (arith, nat_tests) in
     let e0 : size - min (min (a.live + a.target) most + a.ghost) most ≡ a.free = grind (arith, nat_tests) in
-    ap (λ n. told (closed_account size (record { free = 0; live = n; target = min target most; ghosts = min left most }))) e1
-    ∙ ap (λ n. told (closed_account size (record { free = 0; live = a.live; target = n; ghosts = min left most }))) e2
-    ∙ ap (λ n. told (closed_account size (record { free = 0; live = a.live; target = a.target; ghosts = n }))) e3
+    ap (λ n. as_account (closed_account size (record { free = 0; live = n; target = min target most; ghosts = min left most }))) e1
+    ∙ ap (λ n. as_account (closed_account size (record { free = 0; live = a.live; target = n; ghosts = min left most }))) e2
+    ∙ ap (λ n. as_account (closed_account size (record { free = 0; live = a.live; target = a.target; ghosts = n }))) e3
     ∙ ap (λ n. of n a.live a.target a.ghost) e0
 
 -- the last of two tests that both hold

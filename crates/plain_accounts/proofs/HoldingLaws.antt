@@ -14,7 +14,7 @@ use Rattle.journal_model.specs.rules.Places.{frames_of, slots_of}
 use Rattle.journal_model.specs.rules.Holds.{live_buffers, live_entry}
 use Rattle.journal_model.specs.statements.Account as model
 use Rattle.page_accounts.specs.declared.accounts.Account.{Account}
-use Rattle.page_accounts.specs.Accounts.{told}
+use Rattle.page_accounts.specs.Accounts.{as_account}
 use Rattle.page_accounts.specs.Amounts.{Holding, Pages, Targets, Frames, Slots, amount, amount_of_ghost, amount_where_live}
 use Rattle.page_accounts.specs.Counting.{most}
 
@@ -34,10 +34,10 @@ exact : (n m : ℕ) → m ≡ min n most → m < most → m ≡ n
 exact n m e h = grind (arith, nat_tests, e, h)
 
 -- an account by its parts
-account_is : (a held : Account) (b : model.Account) (free : ℕ) → a ≡ record held { free = free } → free ≡ b.free → held.live ≡ b.live → held.target ≡ b.target → held.ghosts ≡ b.ghost → told a ≡ b
+account_is : (a held : Account) (b : model.Account) (free : ℕ) → a ≡ record held { free = free } → free ≡ b.free → held.live ≡ b.live → held.target ≡ b.target → held.ghosts ≡ b.ghost → as_account a ≡ b
 account_is a held b free e f l t g =
     let of : ℕ → ℕ → ℕ → ℕ → model.Account = λ n m k j. record { free = n; live = m; target = k; ghost = j } in
-    ap told e ∙ ap (λ n. of n held.live held.target held.ghosts) f ∙ ap (λ n. of b.free n held.target held.ghosts) l
+    ap as_account e ∙ ap (λ n. of n held.live held.target held.ghosts) f ∙ ap (λ n. of b.free n held.target held.ghosts) l
     ∙ ap (λ n. of b.free b.live n held.ghosts) t ∙ ap (λ n. of b.free b.live b.target n) g
 
 -- ---- the accounts
@@ -47,7 +47,7 @@ pub pages_are : (script : Script) (mem : Mem) (c : Core) (a held : Account) (fre
     → held.target ≡ min (sum_by (amount_where_live (Targets mem)) c.buffers) most → held.target < most
     → held.ghosts ≡ min (sum_by (amount_of_ghost (Pages mem)) c.ghosts) most → held.ghosts < most
     → sum_by (amount_of_ghost (Pages mem)) c.ghosts ≡ (model.account_of mem script c).ghost
-    → told a ≡ model.account_of mem script c
+    → as_account a ≡ model.account_of mem script c
 pages_are script mem c a held free e f l l' t t' g g' ghosts =
     account_is a held (model.account_of mem script c) free e f
     (exact _ held.live l l' ∙ sym (live_sum (Pages mem) 0 c.buffers))
@@ -57,7 +57,7 @@ pages_are script mem c a held free e f l l' t t' g g' ghosts =
 pub frames_are : (script : Script) (c : Core) (a held : Account) (free : ℕ) → a ≡ record held { free = free } → free ≡ (model.frame_account script c).free
     → held.live ≡ min (sum_by (amount_where_live Frames) c.buffers) most → held.live < most → held.target ≡ 0
     → held.ghosts ≡ min (sum_by (amount_of_ghost Frames) c.ghosts) most → held.ghosts < most
-    → told a ≡ model.frame_account script c
+    → as_account a ≡ model.frame_account script c
 frames_are script c a held free e f l l' t g g' =
     account_is a held (model.frame_account script c) free e f
     (exact _ held.live l l' ∙ sym (live_sum Frames 0 c.buffers) ∙ sym (length-flat_map (λ e. frames_of e.1) (live_buffers c)))
@@ -66,7 +66,7 @@ frames_are script c a held free e f l l' t g g' =
 
 pub slots_are : (script : Script) (c : Core) (a held : Account) (free : ℕ) → a ≡ record held { free = free } → free ≡ (model.slot_account script c).free
     → held.live ≡ min (sum_by (amount_where_live Slots) c.buffers) most → held.live < most → held.target ≡ 0 → held.ghosts ≡ 0
-    → told a ≡ model.slot_account script c
+    → as_account a ≡ model.slot_account script c
 slots_are script c a held free e f l l' t g =
     account_is a held (model.slot_account script c) free e f
     (exact _ held.live l l' ∙ sym (live_sum Slots 0 c.buffers) ∙ sym (length-flat_map (λ e. slots_of e.1) (live_buffers c)))

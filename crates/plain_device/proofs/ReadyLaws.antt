@@ -50,7 +50,7 @@ use Rattle.laws.proofs.law_state.Moves.{ThreadStep, thread_step}
 use Rattle.laws.proofs.law_state.Courses.{is_dry_below, place_search_dry}
 use Rattle.laws.proofs.law_state.Pins.{HasPinLeft, result_pins, at_number}
 use Rattle.laws.proofs.law_state.GoodStates.{table_pages}
-use Rattle.rules_state.specs.rules_parts.Pins.{HasPinsLeft}
+use Rattle.rules_state.specs.parts.Pins.{HasPinsLeft}
 use Rattle.rules_search.specs.Room.{HasRoom}
 use Rattle.rules_apply.specs.Ready.{IsThread, CanAnswer, CanShowResult, CanGoDry, CanRun, HasShortTable, has_packets_left, IsReadyFor}
 

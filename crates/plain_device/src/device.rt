@@ -12,7 +12,7 @@ use crate::enact::enact;
 use journal_model::{Entry, Script, State};
 use rules_apply::first_state;
 use rules_next::next;
-use rules_next::rules_schedule::{is_over, next_actor};
+use rules_next::turns::{is_over, next_actor};
 use rules_stores::PlainStores;
 use std::alloc::Global;
 use std::marker::Model;

@@ -9,7 +9,7 @@ ghost use Rattle.plain_device.specs.Held.{is_result};
 use journal_model::{Entry, Kind, Script, State};
 use rules_apply::apply;
 use rules_state::command_at_work;
-use rules_state::rules_parts::actors::thread_of;
+use rules_state::parts::actors::thread_of;
 use rules_stores::{PlainStores, put_write};
 use std::alloc::Global;
 use ttm_base::NoMemory;

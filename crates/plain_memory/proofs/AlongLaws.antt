@@ -27,7 +27,7 @@ use Rattle.journal_model.specs.scripts.ScriptRules.{is_script}
 use Rattle.plain_memory.specs.Fits.{CommandFits}
 use Rattle.plain_memory.specs.Along.{memory_after, is_answer, command_by, counts_after, IsPlain}
 use Rattle.plain_memory.specs.Mismatches.{shows, is_mismatch, mismatch_at, mismatches_from, mismatches_of}
-use Rattle.plain_memory.proofs.RoomLaws.{zeros}
+use Rattle.plain_memory.proofs.ContentLaws.{zeros}
 use Rattle.plain_memory.proofs.FitLaws.{command_fits}
 
 -- ---- by kind
@@ -127,7 +127,7 @@ no_commands script t h = by (t == 0)
     by true = refl
     by false = let none = slice_get_past script.threads (t - 1) (omega arith) in ap (λ (o : Option (List Command)). unwrap_or o []) none
 
-module _ (script : Script) (rooms : List (List ℕ)) (counts : List ℕ) (p : Plain) (is : IsPlain script rooms counts p) where
+module _ (script : Script) (contents : List (List ℕ)) (counts : List ℕ) (p : Plain) (is : IsPlain script contents counts p) where
   -- the command that a thread is at
   command_same : (t : ℕ) → command_by script counts t ≡ command_of script p t
   command_same t =
@@ -141,9 +141,9 @@ module _ (script : Script) (rooms : List (List ℕ)) (counts : List ℕ) (p : Pl
       ]
 
   -- past an entry
-  pub passed : (rooms' : List (List ℕ)) (counts' : List ℕ) (e : Entry) → BecomesMemory rooms rooms' (memory_after (command_by script counts (thread_of e.who)) e.kind (memory_in rooms)) →
-      counts' ≡ counts_after (thread_of e.who) e.kind counts → IsPlain script rooms' counts' (plain_after script p e)
-  passed rooms' counts' e becomes counted_so = record {
+  pub passed : (contents' : List (List ℕ)) (counts' : List ℕ) (e : Entry) → BecomesMemory contents contents' (memory_after (command_by script counts (thread_of e.who)) e.kind (memory_in contents)) →
+      counts' ≡ counts_after (thread_of e.who) e.kind counts → IsPlain script contents' counts' (plain_after script p e)
+  passed contents' counts' e becomes counted_so = record {
     sizes = becomes.same_sizes ∙ is.sizes;
     memory =
         becomes.memory_is ∙ (λ i. memory_after (command_same (thread_of e.who) i) e.kind (is.memory i)) ∙ sym (memory_is_after script p (thread_of e.who) e.kind);
@@ -155,13 +155,13 @@ module _ (script : Script) (rooms : List (List ℕ)) (counts : List ℕ) (p : Pl
   }
 
   -- whether it is a mismatch
-  pub mismatch_same : (e : Entry) → is_mismatch (command_by script counts (thread_of e.who)) (memory_in rooms) e.kind ≡ is_mismatch (command_of script p (thread_of e.who)) p.memory e.kind
+  pub mismatch_same : (e : Entry) → is_mismatch (command_by script counts (thread_of e.who)) (memory_in contents) e.kind ≡ is_mismatch (command_of script p (thread_of e.who)) p.memory e.kind
   mismatch_same e = λ i. is_mismatch (command_same (thread_of e.who) i) (is.memory i) e.kind
 
 -- the command of a thread of a script is inside
-pub fits_along : (script : Script) (rooms : List (List ℕ)) (counts : List ℕ) (p : Plain) → IsTrue (is_script script) → IsPlain script rooms counts p → (t : ℕ) →
-    CommandFits (sizes_in rooms) (command_by script counts t)
-fits_along script rooms counts p fits is t = subst (λ (s : List ℕ). CommandFits s (command_by script counts t)) (sym is.sizes) (command_fits script fits t (get_or counts t 0))
+pub fits_along : (script : Script) (contents : List (List ℕ)) (counts : List ℕ) (p : Plain) → IsTrue (is_script script) → IsPlain script contents counts p → (t : ℕ) →
+    CommandFits (sizes_in contents) (command_by script counts t)
+fits_along script contents counts p fits is t = subst (λ (s : List ℕ). CommandFits s (command_by script counts t)) (sym is.sizes) (command_fits script fits t (get_or counts t 0))
 
 -- one thread more
 pub replicate_push : (n x : ℕ) → replicate n x ++ x ∷ [] ≡ replicate (n + 1) x
@@ -169,9 +169,9 @@ replicate_push zero x = refl
 replicate_push (suc n) x = let e : suc (n + 1) ≡ suc n + 1 = omega arith in ap (λ xs. x ∷ xs) (replicate_push n x) ∙ ap (λ m. replicate m x) e
 
 -- before all entries
-pub begun : (script : Script) (rooms : List (List ℕ)) (counts : List ℕ) → sizes_in rooms ≡ sizes_of script → memory_in rooms ≡ (λ b i. 0) →
-    counts ≡ replicate (length script.threads + 1) 0 → IsPlain script rooms counts first_plain
-begun script rooms counts s m c =
+pub begun : (script : Script) (contents : List (List ℕ)) (counts : List ℕ) → sizes_in contents ≡ sizes_of script → memory_in contents ≡ (λ b i. 0) →
+    counts ≡ replicate (length script.threads + 1) 0 → IsPlain script contents counts first_plain
+begun script contents counts s m c =
     record { sizes = s; memory = m; threads = ap length c ∙ length-replicate {A = ℕ} (length script.threads + 1) 0; answered = λ t le. ap (λ (xs : List ℕ). get_or xs t 0) c ∙ zeros (length script.threads + 1) t }
 
 -- ---- one entry more

@@ -1,3 +1,3 @@
-pub mod RoomLaws
+pub mod ContentLaws
 pub mod FitLaws
 pub mod AlongLaws

@@ -32,8 +32,8 @@ abbrev pub counts_after : ℕ → Kind → List ℕ → List ℕ
 counts_after thread k counts = if is_answer k then slice_set counts thread (slice_index counts thread + 1) else counts
 
 -- kept bytes and numbers of answered commands are those of a place of a journal, for each buffer and thread of the script
-pub record IsPlain (script : Script) (rooms : List (List ℕ)) (counts : List ℕ) (p : Plain) : Type 0 where
-  pub sizes : sizes_in rooms ≡ sizes_of script
-  pub memory : memory_in rooms ≡ p.memory
+pub record IsPlain (script : Script) (contents : List (List ℕ)) (counts : List ℕ) (p : Plain) : Type 0 where
+  pub sizes : sizes_in contents ≡ sizes_of script
+  pub memory : memory_in contents ≡ p.memory
   pub threads : length counts ≡ length script.threads + 1
   pub answered : (t : ℕ) → t ≤ length script.threads → slice_index counts t ≡ p.answered t

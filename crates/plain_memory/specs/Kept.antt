@@ -6,11 +6,11 @@ use Rattle.journal_model.specs.rules.PlainMemory.{Memory}
 
 -- the memory that the lists keep; zeros follow each of them, and in buffers that aren't there
 abbrev pub memory_in : List (List ℕ) → Memory
-memory_in rooms b i = slice_index (slice_index_or rooms b []) i
+memory_in contents b i = slice_index (slice_index_or contents b []) i
 
 -- the number of bytes of each buffer
 abbrev pub sizes_in : List (List ℕ) → List ℕ
-sizes_in rooms = map length rooms
+sizes_in contents = map length contents
 
 -- the number of bytes of each buffer of a script
 abbrev pub sizes_of : Script → List ℕ

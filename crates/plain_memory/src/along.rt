@@ -11,7 +11,7 @@ ghost use Rattle.plain_memory.specs.Mismatches as counted;
 use crate::counts::is_answer;
 use crate::memory::PlainMemory;
 use journal_model::{Command, Entry, Kind, Numbers, Script, Shown};
-use rules_state::rules_parts::actors::thread_of;
+use rules_state::parts::actors::thread_of;
 use rules_state::{commands_of, ops_of};
 use std::alloc::Global;
 use ttm_base::NoMemory;

@@ -3,9 +3,9 @@
 #![tactic(auto)]
 
 mod along;
+mod buffer_bytes;
 mod counts;
 mod memory;
-mod room;
 
 pub use along::mismatches;
 pub use counts::{answers, command_count};

@@ -3,7 +3,7 @@ ghost use Rattle.journal_model.specs.rules.PlainMemory as words;
 ghost use Rattle.plain_memory.specs.Kept.{BecomesMemory, memory_in, sizes_in, sizes_of};
 ghost use Rattle.plain_memory.specs.Fits.{HasRange, OpFits};
 
-use crate::room::Room;
+use crate::buffer_bytes::BufferBytes;
 use journal_model::{Bytes, Script};
 use std::alloc::Global;
 use std::marker::Model;
@@ -12,7 +12,7 @@ use ttm_base::{BufId, NoMemory, Op};
 /// The bytes of each buffer of a script, each buffer in a place of its own, and zeros at first. A write touches only its range.
 #[derive(Drop)]
 pub struct PlainMemory {
-    rooms: Vec<Room>,
+    contents: Vec<BufferBytes>,
 }
 
 impl Model for PlainMemory {
@@ -20,7 +20,7 @@ impl Model for PlainMemory {
 
     ghost Value = { List (List ℕ) };
 
-    ghost view = { λ s. s.rooms.items };
+    ghost view = { λ s. s.contents.items };
 }
 
 /// Returns the exclusive or of the bytes `one` with as many others.
@@ -42,11 +42,11 @@ impl PlainMemory {
         ensures sizes { IfOk result (λ memory. sizes_in memory ≡ sizes_of script.now) }
         ensures zeros { IfOk result (λ memory. memory_in memory ≡ (λ b i. 0)) }
     {
-        let mut rooms = Vec::new(alloc);
+        let mut contents = Vec::new(alloc);
         for buffer in script.buffers.items() {
-            rooms.push(Room::new(alloc, buffer.pages)?)?;
+            contents.push(BufferBytes::new(alloc, buffer.pages)?)?;
         }
-        Ok(PlainMemory { rooms })
+        Ok(PlainMemory { contents })
     }
 
     /// Returns `len` bytes of buffer `b` from `off` on.
@@ -54,7 +54,7 @@ impl PlainMemory {
         requires { HasRange (sizes_in self.now) b off len }
         ensures { result.now ≡ words.memory_range (memory_in self.now) b off len }
     {
-        self.rooms[b.0 as usize].range(off as usize, len as usize)
+        self.contents[b.0 as usize].range(off as usize, len as usize)
     }
 
     /// Makes all bytes of buffer `b` zero, where there is the buffer.
@@ -62,8 +62,8 @@ impl PlainMemory {
         ensures { BecomesMemory self.old self.new (words.with_zeros b (memory_in self.old)) }
     {
         let index = b.0 as usize;
-        if index < self.rooms.as_slice().len() {
-            self.rooms[index].clear();
+        if index < self.contents.as_slice().len() {
+            self.contents[index].clear();
         }
     }
 
@@ -72,7 +72,7 @@ impl PlainMemory {
         requires { HasRange (sizes_in self.old) b off (length from.now) }
         ensures { BecomesMemory self.old self.new (words.with_range b off (length from.now) (slice_index from.now) (memory_in self.old)) }
     {
-        self.rooms[b.0 as usize].write(off as usize, from);
+        self.contents[b.0 as usize].write(off as usize, from);
     }
 
     /// Writes `byte` to `len` bytes of buffer `b` from `off` on.
@@ -80,7 +80,7 @@ impl PlainMemory {
         requires { HasRange (sizes_in self.old) b off len }
         ensures { BecomesMemory self.old self.new (words.with_range b off len (λ i. byte) (memory_in self.old)) }
     {
-        self.rooms[b.0 as usize].fill(off as usize, len as usize, byte);
+        self.contents[b.0 as usize].fill(off as usize, len as usize, byte);
     }
 }
 

@@ -16,7 +16,7 @@ use plain_device::enact::enact;
 use rules_apply::first_state;
 use rules_holds::FreeSets;
 use rules_next::next_with;
-use rules_next::rules_schedule::is_over;
+use rules_next::turns::is_over;
 use rules_stores::PlainStores;
 use std::alloc::Global;
 use ttm_base::NoMemory;

@@ -76,11 +76,11 @@ impl Resv {
 
     /// Returns a job to wait for, among those of `usage` and the lower usages that aren't done, as `FenceSet::need` names
     /// it.
-    pub fn need(&self, usage: Usage, line: &Timeline) -> Option<JobId>
-        requires { length self.now.fences ≡ length line.now }
-        ensures { result ≡ needed usage line.now self.now.fences }
+    pub fn need(&self, usage: Usage, timeline: &Timeline) -> Option<JobId>
+        requires { length self.now.fences ≡ length timeline.now }
+        ensures { result ≡ needed usage timeline.now self.now.fences }
     {
-        self.fences.need(usage, line)
+        self.fences.need(usage, timeline)
     }
 
     /// Lends the jobs that use the buffer.

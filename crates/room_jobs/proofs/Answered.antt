@@ -49,24 +49,24 @@ use Rattle.laws.proofs.law_sound.Bufs.{has_new, none_missing}
 use Rattle.laws.proofs.law_sound.Gifts.{Gives, answers, acts, seeks, fills}
 use Rattle.laws.proofs.law_sound.Turns.{Turn, Works, answer, act}
 use Rattle.laws.specs.lemma_bytes_told.Told.{IsThere}
-use Rattle.room_representation.specs.lemma_room_bytes.Mapped.{HasStoresAfter}
-use Rattle.room_representation.proofs.lemma_room_bytes.Places.{IsReached, page_there}
-use Rattle.room_representation.proofs.lemma_room_bytes.Reached.{write_reached, write_ready}
-use Rattle.room_representation.proofs.lemma_room_bytes.Writes.{result_stores, write_stores}
-use Rattle.room_representation.proofs.lemma_room_jobs.Packets.{nothing_beyond}
-use Rattle.room_representation.specs.lemma_room_lists.Listed.{AreListed, listing_as}
-use Rattle.room_representation.proofs.lemma_room_lists.KindLaws.{released_unseen}
-use Rattle.room_representation.proofs.lemma_room_lists.ScriptLaws.{may_be_listed}
+use Rattle.room_representation.specs.lemma_bytes.Mapped.{HasStoresAfter}
+use Rattle.room_representation.proofs.lemma_bytes.Places.{IsReached, page_there}
+use Rattle.room_representation.proofs.lemma_bytes.Reached.{write_reached, write_ready}
+use Rattle.room_representation.proofs.lemma_bytes.Writes.{result_stores, write_stores}
+use Rattle.room_representation.proofs.lemma_jobs.Packets.{nothing_beyond}
+use Rattle.room_representation.specs.lemma_lists.Listed.{AreListed, listing_as}
+use Rattle.room_representation.proofs.lemma_lists.KindLaws.{released_unseen}
+use Rattle.room_representation.proofs.lemma_lists.ScriptLaws.{may_be_listed}
 use Rattle.room_representation.specs.declared.parts.Parts.{Parts}
 use Rattle.room_representation.specs.Bos.{AreBos, unfenced}
 use Rattle.room_representation.specs.Held.{AreHeld}
 use Rattle.room_representation.specs.Pages.{AreStores}
 use Rattle.room_representation.specs.Represents.{Represents}
 use Rattle.state_words.proofs.Pins.{pins-released}
-use Rattle.room_representation.specs.room_steps.Courses.{command_in, course_at, course_in, with_course_by}
-use Rattle.room_representation.proofs.room_steps.Few.{few_commands}
-use Rattle.room_representation.proofs.room_steps.Lent.{is_below, is_there, lent_below, stands_at}
-use Rattle.room_representation.proofs.room_steps.Steps.{held_after}
+use Rattle.room_representation.specs.steps.Courses.{command_in, course_at, course_in, with_course_by}
+use Rattle.room_representation.proofs.steps.Few.{few_commands}
+use Rattle.room_representation.proofs.steps.Lent.{is_below, is_there, lent_below, stands_at}
+use Rattle.room_representation.proofs.steps.Steps.{held_after}
 use Rattle.room_jobs.specs.Bodies.{body_at}
 use Rattle.room_jobs.specs.Listings.{AreRelisted, CanRelist}
 use Rattle.room_jobs.specs.Writes.{CanWrite, HasWritten}
@@ -321,7 +321,7 @@ module _ (script : Script) (journal : List Entry) (p : Parts) (entry : Entry) (t
       (record {
         bos = subst (λ x. AreBos script s.core.buffers (with_pins (command_at_work script s t) gs) s.last_jobs x) (sym table)
             (record { buffers_are = represents.bos.buffers_are; reservations_are = refl; fences_are = represents.bos.fences_are; pages_are = represents.bos.pages_are });
-        line = represents.line;
+        timeline = represents.timeline;
         rings = represents.rings;
         ghosts = represents.ghosts;
         vram = represents.vram;

@@ -48,15 +48,15 @@ use Rattle.room_representation.specs.declared.parts.Parts.{Parts}
 use Rattle.room_representation.specs.Fences.{AreFences, WaitsFor, fences_of, is_emitted, with_use_in}
 use Rattle.room_representation.specs.Held.{AreHeld}
 use Rattle.room_representation.specs.Represents.{Represents}
-use Rattle.room_representation.proofs.lemma_room_jobs.Later.{IsLater, fences_later}
-use Rattle.room_representation.proofs.lemma_room_jobs.Lists.{both}
-use Rattle.room_representation.proofs.lemma_room_jobs.Sets.{fences_armed, set_length, waits_armed, waits_length, waits_none}
-use Rattle.room_representation.proofs.lemma_room_jobs.Armed.{armed_job, armed_represented}
-use Rattle.room_representation.proofs.lemma_room_jobs.Emitted.{emitted_now, later_more}
-use Rattle.room_representation.proofs.lemma_room_jobs.LegalJobs.{arm_number}
-use Rattle.room_representation.specs.room_steps.Courses.{course_at, course_in, with_course_by}
-use Rattle.room_representation.proofs.room_steps.Lent.{lent_below}
-use Rattle.room_representation.proofs.room_steps.Steps.{held_still, step_as, thread_there}
+use Rattle.room_representation.proofs.lemma_jobs.Later.{IsLater, fences_later}
+use Rattle.room_representation.proofs.lemma_jobs.Lists.{both}
+use Rattle.room_representation.proofs.lemma_jobs.Sets.{fences_armed, set_length, waits_armed, waits_length, waits_none}
+use Rattle.room_representation.proofs.lemma_jobs.Armed.{armed_job, armed_represented}
+use Rattle.room_representation.proofs.lemma_jobs.Emitted.{emitted_now, later_more}
+use Rattle.room_representation.proofs.lemma_jobs.LegalJobs.{arm_number}
+use Rattle.room_representation.specs.steps.Courses.{course_at, course_in, with_course_by}
+use Rattle.room_representation.proofs.steps.Lent.{lent_below}
+use Rattle.room_representation.proofs.steps.Steps.{held_still, step_as, thread_there}
 use Rattle.room_jobs.specs.Standing.{standing_names}
 use Rattle.room_jobs.specs.Uses.{AreWide, HaveContext, with_uses, with_waits}
 use Rattle.room_jobs.specs.Work.{work_of}
@@ -183,8 +183,8 @@ module _ (script : Script) (journal : List Entry) (p : Parts) (entry : Entry) (t
       let b = slice_index_or bs k d in
       lent_below script journal p held b (named_there b (ap (λ ds. has_buffer ds b) (sym same) ∙ has_each bs k d l))
 
-  pub arm_wide : (contexts : ℕ) → contexts ≡ length p.line → AreWide contexts p.bos.fences
-  arm_wide contexts c i set e = wide i set e ∙ sym (c ∙ held.represents.line.contexts)
+  pub arm_wide : (contexts : ℕ) → contexts ≡ length p.timeline → AreWide contexts p.bos.fences
+  arm_wide contexts c i set e = wide i set e ∙ sym (c ∙ held.represents.timeline.contexts)
 
   pub arm_ring : engine < length p.rings
   arm_ring = let same = held.represents.rings.contexts in let k = known in omega (arith, same, k)
@@ -193,16 +193,16 @@ module _ (script : Script) (journal : List Entry) (p : Parts) (entry : Entry) (t
   arm_num = let num = number in omega (arith, num)
 
   -- the jobs that it waits for
-  waits : (o : Option Command) (ops : List Op) (bs : List BufId) (contexts : ℕ) (set : List Latest) → o ≡ work_of script p.courses t → ops ≡ ops_of o → bs ≡ named_in o → contexts ≡ length p.line →
+  waits : (o : Option Command) (ops : List Op) (bs : List BufId) (contexts : ℕ) (set : List Latest) → o ≡ work_of script p.courses t → ops ≡ ops_of o → bs ≡ named_in o → contexts ≡ length p.timeline →
       set ≡ with_waits ops p.bos.fences (replicate contexts nothing_kept) bs → WaitsFor s.core.jobs s.last_jobs (flat_map (jobs_before_use s.core (ops_of cmd)) (named_in cmd)) set
   waits o ops bs contexts set w oe be c e =
       let same : set ≡ with_waits (ops_of cmd) p.bos.fences (replicate (length s.last_jobs) nothing_kept) (named_in cmd) =
-      e ∙ ap (λ k. with_waits ops p.bos.fences (replicate k nothing_kept) bs) (c ∙ held.represents.line.contexts)
+      e ∙ ap (λ k. with_waits ops p.bos.fences (replicate k nothing_kept) bs) (c ∙ held.represents.timeline.contexts)
       ∙ ap₂ (λ os ds. with_waits os p.bos.fences (replicate (length s.last_jobs) nothing_kept) ds) (oe ∙ ap ops_of (w ∙ work_is)) (be ∙ ap named_in (w ∙ work_is)) in
       subst (λ x. WaitsFor s.core.jobs s.last_jobs (flat_map (jobs_before_use s.core (ops_of cmd)) (named_in cmd)) x) (sym same)
       (waits_armed s.core s.last_jobs p.bos.fences sets (ops_of cmd) (named_in cmd) named_live [] (replicate (length s.last_jobs) nothing_kept) (waits_none s.core.jobs s.last_jobs))
 
-  pub arm_waits : (o : Option Command) (ops : List Op) (bs : List BufId) (contexts : ℕ) (set : List Latest) → o ≡ work_of script p.courses t → ops ≡ ops_of o → bs ≡ named_in o → contexts ≡ length p.line →
+  pub arm_waits : (o : Option Command) (ops : List Op) (bs : List BufId) (contexts : ℕ) (set : List Latest) → o ≡ work_of script p.courses t → ops ≡ ops_of o → bs ≡ named_in o → contexts ≡ length p.timeline →
       set ≡ with_waits ops p.bos.fences (replicate contexts nothing_kept) bs → length set ≡ length p.rings
   arm_waits o ops bs contexts set w oe be c e =
       waits_length s.core.jobs s.last_jobs (flat_map (jobs_before_use s.core (ops_of cmd)) (named_in cmd)) set (waits o ops bs contexts set w oe be c e) ∙ sym held.represents.rings.contexts
@@ -224,12 +224,12 @@ module _ (script : Script) (journal : List Entry) (p : Parts) (entry : Entry) (t
       let most = rules.len in
       omega (arith, long, few, most)
 
-  pub arm_known : engine < length p.line
-  arm_known = let same = held.represents.line.contexts in let k = known in omega (arith, same, k)
+  pub arm_known : engine < length p.timeline
+  arm_known = let same = held.represents.timeline.contexts in let k = known in omega (arith, same, k)
 
-  pub arm_emitted : (progress_of p.line engine).emitted < 2 ^ 63
+  pub arm_emitted : (progress_of p.timeline engine).emitted < 2 ^ 63
   arm_emitted =
-      subst (λ m. m < 2 ^ 63) (sym (ap (λ (x : Progress). x.emitted) (held.represents.line.each engine known))) ((counters_law script journal held.fits held.legal).jobs engine)
+      subst (λ m. m < 2 ^ 63) (sym (ap (λ (x : Progress). x.emitted) (held.represents.timeline.each engine known))) ((counters_law script journal held.fits held.legal).jobs engine)
 
   pub arm_context : HaveContext engine p.bos.fences
   arm_context i set e = let l = wide i set e in let k = known in omega (arith, l, k)
@@ -258,7 +258,7 @@ module _ (script : Script) (journal : List Entry) (p : Parts) (entry : Entry) (t
       Represents script (after_submit s t job (ops_of cmd) (named_in cmd)) (stores_of script journal)
       (record p {
         bos = bos;
-        line = with_emitted p.line engine;
+        timeline = with_emitted p.timeline engine;
         rings = with_pushed p.rings (record { job = job; waits = set; packets = packets_of (λ b. packet_place (buffer_in s.core b)) (ops_of cmd); ran = 0 });
         courses = with_course p.courses t (has_made (course s t));
       })
@@ -269,21 +269,21 @@ module _ (script : Script) (journal : List Entry) (p : Parts) (entry : Entry) (t
       (subst (λ fs. AreFences (slice_set s.last_jobs engine n) (fold (with_use job (ops_of cmd)) s.core.buffers (named_in cmd)) fs) (sym fences) sets_then)
 
   -- the parts tell the journal with the entry
-  pub arm_held : (o : Option Command) (ops : List Op) (bs : List BufId) (contexts : ℕ) (set : List Latest) (packets : List Packet) (rings : List (List Pushed)) (line : List Progress) (bos : Bos) (courses : List Course) →
-      o ≡ work_of script p.courses t → ops ≡ ops_of o → bs ≡ named_in o → contexts ≡ length p.line → set ≡ with_waits ops p.bos.fences (replicate contexts nothing_kept) bs → packets ≡ packets_of (standing_names p.bos) ops →
-      rings ≡ with_pushed p.rings (record { job = job; waits = set; packets = packets; ran = 0 }) → line ≡ with_emitted p.line engine → bos ≡ with_uses job ops p.bos bs → courses ≡ with_course_by has_made p.courses t →
-      AreHeld script (journal ++ entry ∷ []) (record p { bos = bos; line = line; rings = rings; courses = courses })
-  arm_held o ops bs contexts set packets rings line bos courses w oe be c se pe re le ue ce =
+  pub arm_held : (o : Option Command) (ops : List Op) (bs : List BufId) (contexts : ℕ) (set : List Latest) (packets : List Packet) (rings : List (List Pushed)) (timeline : List Progress) (bos : Bos) (courses : List Course) →
+      o ≡ work_of script p.courses t → ops ≡ ops_of o → bs ≡ named_in o → contexts ≡ length p.timeline → set ≡ with_waits ops p.bos.fences (replicate contexts nothing_kept) bs → packets ≡ packets_of (standing_names p.bos) ops →
+      rings ≡ with_pushed p.rings (record { job = job; waits = set; packets = packets; ran = 0 }) → timeline ≡ with_emitted p.timeline engine → bos ≡ with_uses job ops p.bos bs → courses ≡ with_course_by has_made p.courses t →
+      AreHeld script (journal ++ entry ∷ []) (record p { bos = bos; timeline = timeline; rings = rings; courses = courses })
+  arm_held o ops bs contexts set packets rings timeline bos courses w oe be c se pe re le ue ce =
       let uses : bos ≡ with_uses job (ops_of cmd) p.bos (named_in cmd) = ue ∙ ap₂ (λ os ds. with_uses job os p.bos ds) (oe ∙ ap ops_of (w ∙ work_is)) (be ∙ ap named_in (w ∙ work_is)) in
       let pushed : rings ≡ with_pushed p.rings (record { job = job; waits = set; packets = packets_of (λ b. packet_place (buffer_in s.core b)) (ops_of cmd); ran = 0 }) =
       re ∙ ap (λ ps. with_pushed p.rings (record { job = job; waits = set; packets = ps; ran = 0 })) (packets_are o ops packets w oe pe) in
       let made : courses ≡ with_course p.courses t (has_made (course s t)) = ce ∙ ap (λ cs. with_course p.courses t (has_made (course_in cs t))) held.represents.courses in
-      held_still script journal p (record p { bos = bos; line = line; rings = rings; courses = courses }) entry (record { who = actor.Thread t; kind = kind.Arm engine n }) held is legal refl
-      (subst (λ x. Represents script (after_submit s t job (ops_of cmd) (named_in cmd)) (stores_of script journal) (record p { bos = bos; line = line; rings = rings; courses = x })) (sym made)
-      (subst (λ x. Represents script (after_submit s t job (ops_of cmd) (named_in cmd)) (stores_of script journal) (record p { bos = bos; line = line; rings = x; courses = with_course p.courses t (has_made (course s t)) })) (sym pushed)
+      held_still script journal p (record p { bos = bos; timeline = timeline; rings = rings; courses = courses }) entry (record { who = actor.Thread t; kind = kind.Arm engine n }) held is legal refl
+      (subst (λ x. Represents script (after_submit s t job (ops_of cmd) (named_in cmd)) (stores_of script journal) (record p { bos = bos; timeline = timeline; rings = rings; courses = x })) (sym made)
+      (subst (λ x. Represents script (after_submit s t job (ops_of cmd) (named_in cmd)) (stores_of script journal) (record p { bos = bos; timeline = timeline; rings = x; courses = with_course p.courses t (has_made (course s t)) })) (sym pushed)
       (subst (λ x. Represents script (after_submit s t job (ops_of cmd) (named_in cmd)) (stores_of script journal) (record p {
         bos = bos;
-        line = x;
+        timeline = x;
         courses = with_course p.courses t (has_made (course s t));
         rings = with_pushed p.rings (record { job = job; waits = set; packets = packets_of (λ b. packet_place (buffer_in s.core b)) (ops_of cmd); ran = 0 });
       })) (sym le)

@@ -19,11 +19,11 @@ use Rattle.journal_model.specs.rules.Places.{page_at, page_in}
 use Rattle.journal_model.specs.rules.Stores.{is_there, put_bytes, within}
 use Rattle.room_representation.specs.Bos.{unfenced}
 use Rattle.room_representation.specs.Pages.{AreSlots, AreStores, HasNoMore}
-use Rattle.room_representation.specs.lemma_room_bytes.Shown.{is_in_stores}
-use Rattle.room_representation.proofs.lemma_room_jobs.Packets.{within_same}
-use Rattle.room_representation.specs.room_steps.Lent.{as_buffer}
-use Rattle.room_representation.proofs.room_steps.Lent.{body_is}
-use Rattle.room_representation.proofs.lemma_room_bytes.Writes.{write_step}
+use Rattle.room_representation.specs.lemma_bytes.Shown.{is_in_stores}
+use Rattle.room_representation.proofs.lemma_jobs.Packets.{within_same}
+use Rattle.room_representation.specs.steps.Lent.{as_buffer}
+use Rattle.room_representation.proofs.steps.Lent.{body_is}
+use Rattle.room_representation.proofs.lemma_bytes.Writes.{write_step}
 use Rattle.room_jobs.specs.Bodies.{body_at}
 use Rattle.room_jobs.specs.Writes.{CanWrite, HavePages, HasPut, HasWritten}
 

@@ -20,8 +20,8 @@ use Rattle.journal_model.specs.rules.State.{reservation_in, has_buffer, live_in,
 use Rattle.journal_model.specs.rules.Commands.{decl, named}
 use Rattle.journal_model.specs.rules.Lists.{touched}
 use Rattle.journal_model.specs.rules.ApplyCommands.{held_as_named, pinned_less, pinned_more, with_pins}
-use Rattle.room_representation.specs.lemma_room_lists.Listed.{AreListed}
-use Rattle.room_representation.proofs.lemma_room_lists.KindLaws.{touched_again, pinned_again, pinned_lists, unpinned_further, unpinned_lists}
+use Rattle.room_representation.specs.lemma_lists.Listed.{AreListed}
+use Rattle.room_representation.proofs.lemma_lists.KindLaws.{touched_again, pinned_again, pinned_lists, unpinned_further, unpinned_lists}
 use Rattle.room_jobs.specs.Bodies.{body_at}
 use Rattle.room_jobs.specs.Listings.{AreRelisted, AreTouched, unlisted_as, unpinned}
 

@@ -12,7 +12,7 @@ use Rattle.journal_model.specs.declared.state.Reservation.{Reservation}
 use Rattle.journal_model.specs.rules.State.{reservation_in, has_buffer, live_in}
 use Rattle.journal_model.specs.rules.Commands.{decl, named}
 use Rattle.journal_model.specs.rules.Lists.{touched}
-use Rattle.room_representation.specs.lemma_room_lists.Listed.{AreListed}
+use Rattle.room_representation.specs.lemma_lists.Listed.{AreListed}
 use Rattle.room_jobs.specs.Bodies.{body_at}
 
 -- the lists without buffer `b`, which stands on one if a listing is given

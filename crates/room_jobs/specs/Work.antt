@@ -4,7 +4,7 @@ use Rattle.journal_model.specs.declared.script.Script.{Script}
 use Rattle.journal_model.specs.declared.script.Command.{Command}
 use Rattle.journal_model.specs.declared.state.Course.{Course}
 use Rattle.journal_model.specs.rules.Commands.{commands_of}
-use Rattle.room_representation.specs.room_steps.Courses.{course_at}
+use Rattle.room_representation.specs.steps.Courses.{course_at}
 
 -- the command after those that the thread has answered, if one is left
 abbrev pub work_of : Script → List Course → ℕ → Option Command

@@ -10,7 +10,7 @@ use crate::pins::change_pins;
 use crate::writes::write;
 use journal_model::{Script, Shown};
 use room_representation::Parts;
-use room_representation::room_steps::{command_of, go_on, held_by, release_all};
+use room_representation::steps::{command_of, go_on, held_by, release_all};
 use state_words::named;
 use std::alloc::Global;
 use ttm_base::NoMemory;

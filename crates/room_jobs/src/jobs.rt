@@ -10,7 +10,7 @@ use crate::uses::{add_uses, waits_at};
 use crate::work::command_at_work;
 use journal_model::Script;
 use room_representation::Parts;
-use room_representation::room_steps::has_made;
+use room_representation::steps::has_made;
 use state_words::{named_in, ops_of};
 use std::alloc::Global;
 use ttm_base::{JobId, NoMemory};
@@ -36,11 +36,11 @@ pub fn arm(
     let ops = ops_of(command);
     let named = named_in(alloc, command)?;
     let bs = named.items();
-    let waits = waits_at(alloc, &parts.bos, parts.line.contexts(), ops, bs)?;
+    let waits = waits_at(alloc, &parts.bos, parts.timeline.contexts(), ops, bs)?;
     let packets = packets_of(alloc, &parts.bos, ops)?;
     let job = JobId { ctx: engine, num };
     parts.rings.push(job, waits, packets)?;
-    let _emitted = parts.line.emit(engine);
+    let _emitted = parts.timeline.emit(engine);
     add_uses(&mut parts.bos, job, ops, bs);
     has_made(&mut parts.courses, thread);
     Ok(())

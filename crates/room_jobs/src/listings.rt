@@ -8,7 +8,7 @@ ghost use Rattle.room_jobs.specs.Listings.{unlisted, unpinned, CanRelist, AreTou
 use bo_table::BoTable;
 use journal_model::{Command, Script};
 use lru_bulk::Lru;
-use room_representation::room_steps::touch;
+use room_representation::steps::touch;
 use state_words::has_buffer;
 use ttm_base::{BufId, NoMemory};
 

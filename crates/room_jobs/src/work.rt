@@ -1,5 +1,5 @@
 ghost use Rattle.std.specs.Prelude.{◌≡◌, IsSome, option_copied};
-ghost use Rattle.room_representation.specs.room_steps.Courses.{course_at};
+ghost use Rattle.room_representation.specs.steps.Courses.{course_at};
 ghost use Rattle.room_jobs.specs.Work.{work_of};
 
 use journal_model::{Command, Courses, Script};

@@ -4,7 +4,7 @@ ghost use Rattle.journal_model.specs.declared.script.Command.TheVariants as comm
 ghost use Rattle.journal_model.specs.rules.Places as places;
 ghost use Rattle.copy_packet.specs.StoreBytes.{IsThere};
 ghost use Rattle.copy_packet.specs.Spots.{after_write, spot_at};
-ghost use Rattle.room_representation.specs.room_steps.Lent.{as_buffer};
+ghost use Rattle.room_representation.specs.steps.Lent.{as_buffer};
 ghost use Rattle.room_jobs.specs.Writes.{CanWrite, HavePages, HasPut, HasWritten};
 
 use bo_table::{Bo, BoTable};

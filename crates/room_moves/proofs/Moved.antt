@@ -49,12 +49,12 @@ use Rattle.laws.proofs.law_state.Rules.{rules_of}
 use Rattle.laws.specs.law_state.GoodState.{last_number}
 use Rattle.laws.proofs.law_transparent.Carried.{told_law}
 use Rattle.laws.specs.lemma_bytes_told.Told.{Told}
-use Rattle.room_representation.specs.lemma_room_lists.Listed.{AreListed}
-use Rattle.room_representation.proofs.lemma_room_lists.KindLaws.{move_lists}
-use Rattle.room_representation.specs.lemma_room_spans.Calls as calls
-use Rattle.room_representation.specs.lemma_room_spans.Owned.{HoldsAsIn}
-use Rattle.room_representation.proofs.lemma_room_spans.Entries.{thread_spans, move_fresh, next_ghost_fresh}
-use Rattle.room_representation.proofs.lemma_room_spans.MoveFence.{behind_fence}
+use Rattle.room_representation.specs.lemma_lists.Listed.{AreListed}
+use Rattle.room_representation.proofs.lemma_lists.KindLaws.{move_lists}
+use Rattle.room_representation.specs.lemma_spans.Calls as calls
+use Rattle.room_representation.specs.lemma_spans.Owned.{HoldsAsIn}
+use Rattle.room_representation.proofs.lemma_spans.Entries.{thread_spans, move_fresh, next_ghost_fresh}
+use Rattle.room_representation.proofs.lemma_spans.MoveFence.{behind_fence}
 use Rattle.room_representation.specs.declared.parts.Ghost.{Ghost}
 use Rattle.room_representation.specs.declared.parts.Parts.{Parts}
 use Rattle.room_representation.specs.Bos.{AreBos, unfenced}
@@ -66,26 +66,26 @@ use Rattle.room_representation.specs.Managers.{IsVram, IsTt}
 use Rattle.room_representation.specs.MoveFences.{IsMoveFence}
 use Rattle.room_representation.specs.Pages.{AreSlots, AreStores}
 use Rattle.room_representation.specs.RingJobs.{AreRings}
-use Rattle.room_representation.proofs.lemma_room_jobs.GhostSteps.{ghosts_push}
-use Rattle.room_representation.proofs.lemma_room_jobs.Later.{IsLater, ghosts_later, move_later}
-use Rattle.room_representation.proofs.lemma_room_jobs.Sets.{set_length}
-use Rattle.room_representation.proofs.lemma_room_jobs.Told.{unfenced_as}
-use Rattle.room_representation.proofs.lemma_room_jobs.BufferSets.{move_id, move_job, empty_set, before_write, moved_fences, moved_ghost}
-use Rattle.room_representation.proofs.lemma_room_jobs.Emitted.{later_more, move_now, rings_more, timeline_more}
-use Rattle.room_representation.proofs.lemma_room_jobs.LegalJobs.{move_number}
-use Rattle.room_representation.proofs.lemma_room_jobs.Packets.{within_same}
-use Rattle.room_representation.specs.lemma_room_bytes.GivenBack.{given_back, slots_left}
-use Rattle.room_representation.proofs.lemma_room_bytes.Behind.{pool_behind}
-use Rattle.room_representation.proofs.lemma_room_bytes.Held.{no_slots}
-use Rattle.room_representation.proofs.lemma_room_bytes.SlotKinds.{move_slots}
-use Rattle.room_representation.proofs.lemma_room_bytes.LegalEntries.{next_tells, no_slots_in_tt}
-use Rattle.room_representation.specs.lemma_room_bytes.Mapped.{HasStoresAfter}
-use Rattle.room_representation.proofs.lemma_room_bytes.Entries.{move_in_representation, move_out_representation}
-use Rattle.room_representation.proofs.lemma_room_bytes.Holders.{target_inside}
-use Rattle.room_representation.specs.room_steps.Lent.{as_buffer}
-use Rattle.room_representation.proofs.room_steps.Lent.{lent_below, lent_is, stands_at}
-use Rattle.room_representation.proofs.room_steps.Steps.{held_still, step_as}
-use Rattle.room_pages.specs.room_binds.Apertures.{AreBelow}
+use Rattle.room_representation.proofs.lemma_jobs.GhostSteps.{ghosts_push}
+use Rattle.room_representation.proofs.lemma_jobs.Later.{IsLater, ghosts_later, move_later}
+use Rattle.room_representation.proofs.lemma_jobs.Sets.{set_length}
+use Rattle.room_representation.proofs.lemma_jobs.Told.{unfenced_as}
+use Rattle.room_representation.proofs.lemma_jobs.BufferSets.{move_id, move_job, empty_set, before_write, moved_fences, moved_ghost}
+use Rattle.room_representation.proofs.lemma_jobs.Emitted.{later_more, move_now, rings_more, timeline_more}
+use Rattle.room_representation.proofs.lemma_jobs.LegalJobs.{move_number}
+use Rattle.room_representation.proofs.lemma_jobs.Packets.{within_same}
+use Rattle.room_representation.specs.lemma_bytes.GivenBack.{given_back, slots_left}
+use Rattle.room_representation.proofs.lemma_bytes.Behind.{pool_behind}
+use Rattle.room_representation.proofs.lemma_bytes.Held.{no_slots}
+use Rattle.room_representation.proofs.lemma_bytes.SlotKinds.{move_slots}
+use Rattle.room_representation.proofs.lemma_bytes.LegalEntries.{next_tells, no_slots_in_tt}
+use Rattle.room_representation.specs.lemma_bytes.Mapped.{HasStoresAfter}
+use Rattle.room_representation.proofs.lemma_bytes.Entries.{move_in_representation, move_out_representation}
+use Rattle.room_representation.proofs.lemma_bytes.Holders.{target_inside}
+use Rattle.room_representation.specs.steps.Lent.{as_buffer}
+use Rattle.room_representation.proofs.steps.Lent.{lent_below, lent_is, stands_at}
+use Rattle.room_representation.proofs.steps.Steps.{held_still, step_as}
+use Rattle.room_pages.specs.binding.Apertures.{AreBelow}
 use Rattle.room_moves.specs.Copies.{copies}
 use Rattle.room_moves.specs.Lefts.{ghost_of, left_by_move}
 use Rattle.room_moves.specs.Mappings.{mapped_in}
@@ -168,10 +168,10 @@ module _ (script : Script) (journal : List Entry) (p : Parts) (entry : Entry) (t
     pub move_from : bo.mem ≢ System
     move_from e = move.from (sym (ap (λ (y : Buffer). y.mem) lent_here) ∙ e)
 
-    module _ (contexts : ℕ) (many : contexts ≡ length p.line) where
+    module _ (contexts : ℕ) (many : contexts ≡ length p.timeline) where
       -- the timeline has the state's contexts
       contexts_are : contexts ≡ length s.last_jobs
-      contexts_are = many ∙ held.represents.line.contexts
+      contexts_are = many ∙ held.represents.timeline.contexts
 
       -- so has the buffer's set
       pub move_wide : length bo.resv.fences ≡ contexts
@@ -217,12 +217,12 @@ module _ (script : Script) (journal : List Entry) (p : Parts) (entry : Entry) (t
   move_ring = subst (λ m. 0 < m) (sym held.represents.rings.contexts) known
 
   -- and a place in the timeline
-  pub move_line : 0 < length p.line
-  move_line = subst (λ m. 0 < m) (sym held.represents.line.contexts) known
+  pub move_line : 0 < length p.timeline
+  move_line = subst (λ m. 0 < m) (sym held.represents.timeline.contexts) known
 
   -- whose next number fits
-  pub move_emitted : (progress_of p.line 0).emitted < 2 ^ 63
-  move_emitted = subst (λ (q : Progress). q.emitted < 2 ^ 63) (sym (held.represents.line.each 0 known)) ((counters_law script journal held.fits held.legal).jobs 0)
+  pub move_emitted : (progress_of p.timeline 0).emitted < 2 ^ 63
+  move_emitted = subst (λ (q : Progress). q.emitted < 2 ^ 63) (sym (held.represents.timeline.each 0 known)) ((counters_law script journal held.fits held.legal).jobs 0)
 
   -- ---- managers
 
@@ -388,22 +388,22 @@ module _ (script : Script) (journal : List Entry) (p : Parts) (entry : Entry) (t
   mapped_unfenced System = refl
 
   -- all parts tell the state and the bytes after the move
-  pub move_held : (bo : Bo) → IsBo p.bos b bo → (contexts : ℕ) → contexts ≡ length p.line → (packets : List Packet) → packets ≡ copies (length bo.table) mem (target_spans mem (as_buffer bo)) bo.mem bo.spans →
+  pub move_held : (bo : Bo) → IsBo p.bos b bo → (contexts : ℕ) → contexts ≡ length p.timeline → (packets : List Packet) → packets ≡ copies (length bo.table) mem (target_spans mem (as_buffer bo)) bo.mem bo.spans →
       (waits : List Latest) → waits ≡ all_added Read (replicate contexts nothing_kept) bo.resv.fences → (ghost : Option Ghost) → ghost ≡ left_by_move contexts (as_buffer bo) (move_id n) l →
       (rings : List (List Pushed)) → rings ≡ with_pushed p.rings (record { job = move_id n; waits = waits; packets = packets; ran = 0 }) → (ghosts : List Ghost) → ghosts ≡ p.ghosts ++ option_to_list ghost →
-      (aper : List (Option ℕ)) → aper ≡ mapped_in mem p.stores.aper (as_buffer bo) → (line : List Progress) → line ≡ with_emitted p.line 0 →
+      (aper : List (Option ℕ)) → aper ≡ mapped_in mem p.stores.aper (as_buffer bo) → (timeline : List Progress) → timeline ≡ with_emitted p.timeline 0 →
       (carry v : room.Vram) → carry.resources ≡ calls.carried Vram mem b l p.vram.resources → room.spans_of_kind carry.kind ≡ room.spans_of_kind p.vram.kind → v.resources ≡ with_fence_left (move_id n) l carry.resources →
       room.spans_of_kind v.kind ≡ room.spans_of_kind carry.kind → (r : Resources) → r ≡ calls.carried Tt mem b l p.tt → (mid bos : Bos) → mid ≡ with_changed (carried mem) p.bos b → bos ≡ with_use (move_id n) Kernel mid b →
       (o : Order) → o ≡ relisted p.lru b mem → AreMembersListed p.lru → (last : ℕ) → last ≡ last_ghost_left l p.last_ghost →
-      AreHeld script (journal ++ entry ∷ []) (record p { rings = rings; ghosts = ghosts; stores = record p.stores { aper = aper }; line = line; vram = v; tt = r; bos = bos; lru = o; last_ghost = last })
-  move_held bo lent contexts many packets pe waits we ghost ge rings re ghosts gse aper ae line le carry v ce rule ve rule_then r rne mid bos me be o oe members last lge =
+      AreHeld script (journal ++ entry ∷ []) (record p { rings = rings; ghosts = ghosts; stores = record p.stores { aper = aper }; timeline = timeline; vram = v; tt = r; bos = bos; lru = o; last_ghost = last })
+  move_held bo lent contexts many packets pe waits we ghost ge rings re ghosts gse aper ae timeline le carry v ce rule ve rule_then r rne mid bos me be o oe members last lge =
       let same = within_same script.sizes (stores_of script journal) held.represents.no_more in
       let mapped : aper ≡ mapped_in mem p.stores.aper x = ae ∙ ap (mapped_in mem p.stores.aper) (lent_here bo lent) ∙ mapped_unfenced mem in
-      held_still script journal p (record p { rings = rings; ghosts = ghosts; stores = record p.stores { aper = aper }; line = line; vram = v; tt = r; bos = bos; lru = o; last_ghost = last }) entry
+      held_still script journal p (record p { rings = rings; ghosts = ghosts; stores = record p.stores { aper = aper }; timeline = timeline; vram = v; tt = r; bos = bos; lru = o; last_ghost = last }) entry
       (record { who = actor.Thread t; kind = kind.Move b mem n l }) held is legal refl
       (record {
         bos = bos_then mid bos me be;
-        line = subst (λ k. IsTimeline jobs_then last_then k) (sym le) (timeline_more s.core.jobs s.last_jobs job known num refl p.line held.represents.line);
+        timeline = subst (λ k. IsTimeline jobs_then last_then k) (sym le) (timeline_more s.core.jobs s.last_jobs job known num refl p.timeline held.represents.timeline);
         rings = rings_then rings waits packets (waits_are bo lent contexts many waits we) (packets_same bo lent packets pe) re;
         ghosts = ghosts_then ghosts ghost (ghost_is bo lent contexts many ghost ge) gse;
         vram = vram_then carry v ce rule ve rule_then;

@@ -5,7 +5,7 @@ use Rattle.ttm_base.specs.declared.Mem.TheVariants.{System, Tt, Vram}
 use Rattle.journal_model.specs.declared.state.Buffer.{Buffer}
 use Rattle.journal_model.specs.rules.State.{target_spans}
 use Rattle.journal_model.specs.rules.Places.{pages_of}
-use Rattle.room_representation.specs.lemma_room_bytes.Mapped.{mapped_to}
+use Rattle.room_representation.specs.lemma_bytes.Mapped.{mapped_to}
 
 -- the aperture, where the pages of a target in TT are mapped to the buffer's frames
 abbrev pub mapped_in : Mem → List (Option ℕ) → Buffer → List (Option ℕ)

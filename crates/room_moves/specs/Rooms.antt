@@ -6,7 +6,7 @@ use Rattle.ttm_base.specs.declared.Owner.TheVariants as owner
 use Rattle.journal_model.specs.declared.entry.Left.{Left}
 use Rattle.journal_model.specs.declared.entry.Left.TheVariants as left
 use Rattle.resource_core.specs.Resources.{Resources, holds}
-use Rattle.room_representation.specs.lemma_room_spans.Calls.{left_by}
+use Rattle.room_representation.specs.lemma_spans.Calls.{left_by}
 
 -- the ghost that gets what is left holds nothing yet
 abbrev pub CanLeave : Left → Resources → Type 0

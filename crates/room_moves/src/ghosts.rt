@@ -3,13 +3,13 @@ ghost use Rattle.ttm_base.specs.declared.Usage.TheVariants as usage;
 ghost use Rattle.fence_core.specs.Fences.{added, nothing_kept};
 ghost use Rattle.journal_model.specs.rules.Holds as holds;
 ghost use Rattle.journal_model.specs.rules.ApplyMoves as words;
-ghost use Rattle.room_representation.specs.room_steps.Lent.{as_buffer};
+ghost use Rattle.room_representation.specs.steps.Lent.{as_buffer};
 ghost use Rattle.room_moves.specs.Lefts.{left_by_move};
 
 use bo_table::Bo;
 use fence_core::FenceSet;
 use journal_model::{Frames, Left};
-use room_pages::room_binds::frames_in;
+use room_pages::binding::frames_in;
 use room_representation::Ghost;
 use std::alloc::Global;
 use ttm_base::{JobId, Mem, NoMemory, Spans, Usage};

@@ -2,12 +2,12 @@ ghost use Rattle.std.specs.Prelude.{◌≡◌, false};
 ghost use Rattle.ttm_base.specs.declared.Owner.TheVariants as owner;
 ghost use Rattle.resource_core.specs.Resources.{holds};
 ghost use Rattle.resource_core.specs.Vram.{spans_of_kind};
-ghost use Rattle.room_representation.specs.lemma_room_spans.Calls.{arrived, carried, left_by};
+ghost use Rattle.room_representation.specs.lemma_spans.Calls.{arrived, carried, left_by};
 ghost use Rattle.room_moves.specs.Rooms.{CanCarry, CanLeave, with_fence_left};
 
 use journal_model::Left;
 use resource_core::{Manager, VramRoom};
-use room_pages::room_binds::{give_back, pass_on};
+use room_pages::binding::{give_back, pass_on};
 use ttm_base::{BufId, JobId, Mem, Owner};
 
 /// Frees the spans of buffer `b`, or passes them to its ghost, as `left` tells.

@@ -2,13 +2,13 @@ ghost use Rattle.std.specs.Prelude.{◌≡◌, length};
 ghost use Rattle.ttm_base.specs.declared.Mem.TheVariants.{Tt as InTt};
 ghost use Rattle.journal_model.specs.rules.State.{target_spans};
 ghost use Rattle.journal_model.specs.rules.Places.{pages_of};
-ghost use Rattle.room_pages.specs.room_binds.Apertures.{AreBelow};
-ghost use Rattle.room_representation.specs.room_steps.Lent.{as_buffer};
+ghost use Rattle.room_pages.specs.binding.Apertures.{AreBelow};
+ghost use Rattle.room_representation.specs.steps.Lent.{as_buffer};
 ghost use Rattle.room_moves.specs.Mappings.{mapped_in};
 
 use aperture_table::Aperture;
 use bo_table::Bo;
-use room_pages::room_binds::map_pages;
+use room_pages::binding::map_pages;
 use ttm_base::Mem;
 
 /// Maps the pages of the target of the buffer `bo`, if that is in TT. The pages that it leaves stay mapped for its ghost.

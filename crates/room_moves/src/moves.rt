@@ -12,7 +12,7 @@ use crate::mappings::map_target;
 use crate::packets::move_packets;
 use crate::starts::{start_job, waits_of};
 use journal_model::Left;
-use room_pages::room_binds::relist;
+use room_pages::binding::relist;
 use room_representation::Parts;
 use std::alloc::Global;
 use ttm_base::{BufId, JobId, Mem, NoMemory, Usage};
@@ -50,7 +50,7 @@ pub fn move_buffer(
 {
     parts.lru.members_stand_once();
     let job = JobId { ctx: MOVES, num };
-    let contexts = parts.line.contexts();
+    let contexts = parts.timeline.contexts();
     let bo = parts.bos.get(b);
     let packets = move_packets(alloc, bo, mem)?;
     let waits = waits_of(alloc, contexts, bo)?;
@@ -64,7 +64,7 @@ pub fn move_buffer(
         ghost_object,
     )?;
     map_target(&mut parts.stores.aper, bo, mem);
-    let _emitted = parts.line.emit(MOVES);
+    let _emitted = parts.timeline.emit(MOVES);
     carry_spans(&mut parts.vram, Mem::Vram, mem, b, left);
     carry_spans(&mut parts.tt, Mem::Tt, mem, b, left);
     keep_move_fence(&mut parts.vram, job, left);

@@ -2,7 +2,7 @@ ghost use Rattle.std.specs.Prelude.{◌≡◌, ◌≢◌, IfOk, drop, length, sl
 ghost use Rattle.ttm_base.specs.declared.Mem.TheVariants.{System as InSystem};
 ghost use Rattle.journal_model.specs.rules.ApplyMoves as words;
 ghost use Rattle.journal_model.specs.rules.State as model;
-ghost use Rattle.room_representation.specs.room_steps.Lent.{as_buffer};
+ghost use Rattle.room_representation.specs.steps.Lent.{as_buffer};
 ghost use Rattle.room_moves.specs.Copies.{copies, named};
 
 use bo_table::Bo;

@@ -20,22 +20,22 @@ use Rattle.laws.proofs.law_owners.Law.{owner_law}
 use Rattle.laws.specs.lemma_bytes_told.Told as told
 use Rattle.laws.specs.lemma_bytes_told.Told.{IsThere, Told}
 use Rattle.laws.proofs.law_transparent.Carried.{told_law}
-use Rattle.room_representation.proofs.lemma_room_lists.KindLaws.{changed_unseen}
-use Rattle.room_representation.proofs.lemma_room_spans.Still.{depopulate_spans}
+use Rattle.room_representation.proofs.lemma_lists.KindLaws.{changed_unseen}
+use Rattle.room_representation.proofs.lemma_spans.Still.{depopulate_spans}
 use Rattle.room_representation.specs.declared.parts.Parts.{Parts}
 use Rattle.room_representation.specs.Held.{AreHeld}
 use Rattle.room_representation.specs.Pages.{ArePooled}
 use Rattle.room_representation.specs.Represents.{Represents}
-use Rattle.room_representation.proofs.lemma_room_jobs.Packets.{nothing_beyond}
-use Rattle.room_representation.specs.lemma_room_bytes.GivenBack.{given_back}
-use Rattle.room_representation.proofs.lemma_room_bytes.Pools.{depopulate_pooled}
-use Rattle.room_representation.proofs.lemma_room_bytes.SlotKinds.{depopulate_slots}
-use Rattle.room_representation.proofs.lemma_room_bytes.Walks.{frames_within, table_held_still}
-use Rattle.room_representation.proofs.lemma_room_bytes.Fills.{depopulate_stores}
+use Rattle.room_representation.proofs.lemma_jobs.Packets.{nothing_beyond}
+use Rattle.room_representation.specs.lemma_bytes.GivenBack.{given_back}
+use Rattle.room_representation.proofs.lemma_bytes.Pools.{depopulate_pooled}
+use Rattle.room_representation.proofs.lemma_bytes.SlotKinds.{depopulate_slots}
+use Rattle.room_representation.proofs.lemma_bytes.Walks.{frames_within, table_held_still}
+use Rattle.room_representation.proofs.lemma_bytes.Fills.{depopulate_stores}
 use Rattle.room_pages.specs.Tables.{AreHeldInTurn}
-use Rattle.room_representation.proofs.room_steps.Steps.{held_after, step_as}
-use Rattle.room_representation.proofs.room_steps.Frames.{changed_bos}
-use Rattle.room_representation.proofs.room_steps.Lent.{lent_below, lent_table}
+use Rattle.room_representation.proofs.steps.Steps.{held_after, step_as}
+use Rattle.room_representation.proofs.steps.Frames.{changed_bos}
+use Rattle.room_representation.proofs.steps.Lent.{lent_below, lent_table}
 
 module _ (script : Script) (journal : List Entry) (p : Parts) (entry : Entry) (t : ℕ) (b : BufId) (held : AreHeld script journal p) (is : entry ≡ record { who = actor.Thread t; kind = kind.Depopulate b }) (legal : IsLegalNext script (world_of script journal) entry) where
   -- the buffer is live in VRAM
@@ -68,7 +68,7 @@ module _ (script : Script) (journal : List Entry) (p : Parts) (entry : Entry) (t
       (subst (λ (y : Entry). Represents script (world_after script w y).state (world_after script w y).stores q) (sym is)
       (record {
         bos = changed_bos without_frames (λ x. refl) (λ x. refl) script (state_of script journal).core.buffers (state_of script journal).reservations (state_of script journal).last_jobs p.bos represents.bos b bos e;
-        line = represents.line;
+        timeline = represents.timeline;
         rings = represents.rings;
         ghosts = represents.ghosts;
         vram = record { rule = represents.vram.rule; held_as = depopulate_spans script.sizes.vram Vram (state_of script journal) p.vram.resources represents.vram.held_as b; fence = represents.vram.fence };

@@ -27,28 +27,28 @@ use Rattle.journal_model.specs.rules.Legal.{IsLegalNext, state_of, world_of, wor
 use Rattle.laws.proofs.law_owners.Law.{owner_law}
 use Rattle.laws.specs.lemma_bytes_told.Told.{IsThere, Told, still, swaps_out}
 use Rattle.laws.proofs.law_transparent.Carried.{told_law}
-use Rattle.room_representation.proofs.lemma_room_lists.KindLaws.{changed_unseen}
-use Rattle.room_representation.proofs.lemma_room_spans.Still.{swap_out_spans}
+use Rattle.room_representation.proofs.lemma_lists.KindLaws.{changed_unseen}
+use Rattle.room_representation.proofs.lemma_spans.Still.{swap_out_spans}
 use Rattle.room_representation.specs.declared.parts.Parts.{Parts}
 use Rattle.room_representation.specs.Held.{AreHeld}
 use Rattle.room_representation.specs.Pages.{ArePooled, AreSlots}
 use Rattle.room_representation.specs.Represents.{Represents}
-use Rattle.room_representation.proofs.lemma_room_jobs.Packets.{nothing_beyond}
-use Rattle.room_representation.specs.lemma_room_bytes.After.{frame_at}
-use Rattle.room_representation.specs.lemma_room_bytes.GivenBack.{given, taken}
-use Rattle.room_representation.proofs.lemma_room_bytes.Lowest.{slot_first, lowest_is_unheld}
-use Rattle.room_representation.proofs.lemma_room_bytes.Marks.{length-marks}
-use Rattle.room_representation.proofs.lemma_room_bytes.Pools.{swap_out_pooled}
-use Rattle.room_representation.proofs.lemma_room_bytes.SlotKinds.{swap_out_slots}
-use Rattle.room_representation.proofs.lemma_room_bytes.Telling.{to_empty}
-use Rattle.room_representation.proofs.lemma_room_bytes.Walks.{frames_within, page_held}
-use Rattle.room_representation.proofs.lemma_room_bytes.Fills.{swap_out_stores}
-use Rattle.room_representation.proofs.lemma_room_bytes.Shown.{frame_read}
+use Rattle.room_representation.proofs.lemma_jobs.Packets.{nothing_beyond}
+use Rattle.room_representation.specs.lemma_bytes.After.{frame_at}
+use Rattle.room_representation.specs.lemma_bytes.GivenBack.{given, taken}
+use Rattle.room_representation.proofs.lemma_bytes.Lowest.{slot_first, lowest_is_unheld}
+use Rattle.room_representation.proofs.lemma_bytes.Marks.{length-marks}
+use Rattle.room_representation.proofs.lemma_bytes.Pools.{swap_out_pooled}
+use Rattle.room_representation.proofs.lemma_bytes.SlotKinds.{swap_out_slots}
+use Rattle.room_representation.proofs.lemma_bytes.Telling.{to_empty}
+use Rattle.room_representation.proofs.lemma_bytes.Walks.{frames_within, page_held}
+use Rattle.room_representation.proofs.lemma_bytes.Fills.{swap_out_stores}
+use Rattle.room_representation.proofs.lemma_bytes.Shown.{frame_read}
 use Rattle.room_pages.specs.Tables.{frame_in}
 use Rattle.room_pages.proofs.Padded.{length-padded, long_before, padded_over, padded_same}
-use Rattle.room_representation.proofs.room_steps.Steps.{held_after, step_as}
-use Rattle.room_representation.proofs.room_steps.Frames.{changed_bos}
-use Rattle.room_representation.proofs.room_steps.Lent.{is_below, lent_below, lent_table}
+use Rattle.room_representation.proofs.steps.Steps.{held_after, step_as}
+use Rattle.room_representation.proofs.steps.Frames.{changed_bos}
+use Rattle.room_representation.proofs.steps.Lent.{is_below, lent_below, lent_table}
 
 -- ---- slots whose number of bytes is known only after the page that is put there
 
@@ -180,7 +180,7 @@ module _ (script : Script) (journal : List Entry) (p : Parts) (entry : Entry) (t
       (subst (λ (y : Entry). Represents script (world_after script w y).state (world_after script w y).stores q) (sym is)
       (record {
         bos = changed_bos (with_loc page (loc.Slot k)) (λ x. refl) (λ x. refl) script s.core.buffers s.reservations s.last_jobs p.bos represents.bos b bos e;
-        line = represents.line;
+        timeline = represents.timeline;
         rings = represents.rings;
         ghosts = represents.ghosts;
         vram = record { rule = represents.vram.rule; held_as = swap_out_spans script.sizes.vram Vram s p.vram.resources represents.vram.held_as b page k; fence = represents.vram.fence };

@@ -6,8 +6,8 @@ use Rattle.std.proofs.lemmas.Option.{slice_get-get_or}
 use Rattle.ttm_base.specs.declared.Loc.{Loc}
 use Rattle.ttm_base.specs.declared.Loc.TheVariants as loc
 use Rattle.journal_model.specs.rules.Places.{frame_of}
-use Rattle.room_representation.specs.lemma_room_bytes.GivenBack.{given, given_back}
-use Rattle.room_representation.proofs.lemma_room_bytes.Walks.{passed, table_given}
+use Rattle.room_representation.specs.lemma_bytes.GivenBack.{given, given_back}
+use Rattle.room_representation.proofs.lemma_bytes.Walks.{passed, table_given}
 use Rattle.room_pages.specs.Tables.{AreHeldInTurn}
 
 module _ (pool : List Bool) (places : List Loc) (i : ℕ) (l : Loc) (below : i < length places) (is : slice_index_or places i loc.Zero ≡ l) where

@@ -1,3 +1,3 @@
-pub mod room_ghosts
-pub mod room_binds
+pub mod ghosts
+pub mod binding
 pub mod Tables

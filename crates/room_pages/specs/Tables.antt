@@ -3,7 +3,7 @@ use Rattle.std.specs.Prelude.{◌≡◌, ℕ, Bool, true, List, Option, Some, op
 use Rattle.std.specs.List.{filter_map}
 use Rattle.ttm_base.specs.declared.Loc.{Loc}
 use Rattle.journal_model.specs.rules.Places.{frame_of}
-use Rattle.room_representation.specs.lemma_room_bytes.GivenBack.{given_back}
+use Rattle.room_representation.specs.lemma_bytes.GivenBack.{given_back}
 
 -- each frame of the table is held when it is given back, after those before it
 abbrev pub AreHeldInTurn : List Bool → List Loc → Type 0

@@ -1,7 +1,7 @@
 ghost use Rattle.std.specs.Prelude.{◌≡◌, IsSome, Some};
 ghost use Rattle.std.specs.List.{filter_map};
 ghost use Rattle.journal_model.specs.rules.Places.{frame_of};
-ghost use Rattle.room_representation.specs.lemma_room_bytes.GivenBack.{given_back};
+ghost use Rattle.room_representation.specs.lemma_bytes.GivenBack.{given_back};
 ghost use Rattle.room_pages.specs.Tables.{AreHeldInTurn, frame_in};
 
 use page_pool::PagePool;

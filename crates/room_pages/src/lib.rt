@@ -2,10 +2,10 @@
 //! out goes to a slot. No call takes memory.
 #![tactic(auto)]
 
+pub mod binding;
 mod frames;
+pub mod ghosts;
 mod pages;
-pub mod room_binds;
-pub mod room_ghosts;
 
 pub use frames::give_frames;
 pub use pages::{depopulate, swap_out};

@@ -20,13 +20,13 @@ use Rattle.journal_model.specs.rules.Legal.{IsLegalNext, state_of, stores_of, wo
 use Rattle.laws.proofs.law_state.Rules.{rules_of, at_work_rules}
 use Rattle.laws.proofs.law_sound.Along.{Stepped}
 use Rattle.laws.proofs.law_sound.Gifts.{Gives, shifts, seeks, fills}
-use Rattle.room_representation.specs.lemma_room_lists.Listed.{AreListed}
-use Rattle.room_representation.proofs.lemma_room_lists.KindLaws.{bulk_lists}
+use Rattle.room_representation.specs.lemma_lists.Listed.{AreListed}
+use Rattle.room_representation.proofs.lemma_lists.KindLaws.{bulk_lists}
 use Rattle.room_representation.specs.declared.parts.Parts.{Parts}
 use Rattle.room_representation.specs.Held.{AreHeld}
-use Rattle.room_representation.specs.room_steps.Courses.{course_at, with_course_by}
-use Rattle.room_representation.proofs.room_steps.Steps.{held_still, thread_stepped, thread_there}
-use Rattle.room_representation.proofs.room_steps.Frames.{eased_represented}
+use Rattle.room_representation.specs.steps.Courses.{course_at, with_course_by}
+use Rattle.room_representation.proofs.steps.Steps.{held_still, thread_stepped, thread_there}
+use Rattle.room_representation.proofs.steps.Frames.{eased_represented}
 
 below_sixteen : (group : ℕ) → nat_le group 15 ≡ true → group < 16
 below_sixteen group h = grind (arith, nat_tests)

@@ -33,16 +33,16 @@ use Rattle.journal_model.specs.rules.Legal.{IsLegalNext, state_of, stores_of, wo
 use Rattle.laws.proofs.law_sound.Along.{Stepped}
 use Rattle.laws.proofs.law_sound.Bufs.{found_passes}
 use Rattle.laws.proofs.law_sound.Gifts.{Gives, seeks, fills, evicts, evicts_for_swap}
-use Rattle.room_representation.specs.lemma_room_lists.Listed.{AreListed}
-use Rattle.room_representation.proofs.lemma_room_lists.KindLaws.{reservation_changed_unseen, loose_lists}
-use Rattle.room_representation.proofs.lemma_room_spans.Still.{catch_spans}
+use Rattle.room_representation.specs.lemma_lists.Listed.{AreListed}
+use Rattle.room_representation.proofs.lemma_lists.KindLaws.{reservation_changed_unseen, loose_lists}
+use Rattle.room_representation.proofs.lemma_spans.Still.{catch_spans}
 use Rattle.room_representation.specs.declared.parts.Parts.{Parts}
 use Rattle.room_representation.specs.Bos.{unfenced}
 use Rattle.room_representation.specs.Held.{AreHeld}
 use Rattle.room_representation.specs.Represents.{Represents}
-use Rattle.room_representation.specs.room_steps.Courses.{course_at, course_in, with_course_by}
-use Rattle.room_representation.proofs.room_steps.Steps.{held_still, thread_stepped, thread_there}
-use Rattle.room_representation.proofs.room_steps.Frames.{LeavesInPlace, eased_represented, changed_represented}
+use Rattle.room_representation.specs.steps.Courses.{course_at, course_in, with_course_by}
+use Rattle.room_representation.proofs.steps.Steps.{held_still, thread_stepped, thread_there}
+use Rattle.room_representation.proofs.steps.Frames.{LeavesInPlace, eased_represented, changed_represented}
 
 -- ---- no frame is available
 

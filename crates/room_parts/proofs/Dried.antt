@@ -41,11 +41,11 @@ use Rattle.laws.proofs.law_sound.Turns.{Turn, OnBuffer, victim_search, ask, hop_
 use Rattle.laws.specs.lemma_bytes_told.Told.{IsThere}
 use Rattle.room_representation.specs.declared.parts.Parts.{Parts}
 use Rattle.room_representation.specs.Held.{AreHeld}
-use Rattle.room_representation.specs.room_steps.Courses.{command_in, course_at, with_course_by}
-use Rattle.room_representation.proofs.room_steps.Few.{dry_few}
-use Rattle.room_representation.proofs.room_steps.Frames.{eased_represented}
-use Rattle.room_representation.proofs.room_steps.Lent.{is_below, is_there, lent_below, lent_is, stands_at}
-use Rattle.room_representation.proofs.room_steps.Steps.{held_still, thread_stepped, thread_there}
+use Rattle.room_representation.specs.steps.Courses.{command_in, course_at, with_course_by}
+use Rattle.room_representation.proofs.steps.Few.{dry_few}
+use Rattle.room_representation.proofs.steps.Frames.{eased_represented}
+use Rattle.room_representation.proofs.steps.Lent.{is_below, is_there, lent_below, lent_is, stands_at}
+use Rattle.room_representation.proofs.steps.Steps.{held_still, thread_stepped, thread_there}
 use Rattle.room_parts.specs.Dries.{dried, searched_places}
 
 -- ---- how many places

@@ -19,20 +19,20 @@ use Rattle.journal_model.specs.rules.Stores.{stores_after}
 use Rattle.journal_model.specs.rules.Legal.{IsLegalNext, state_of, world_of, world_after}
 use Rattle.laws.specs.lemma_bytes_told.Told.{IsThere, Told, still, populates}
 use Rattle.laws.proofs.law_transparent.Carried.{told_law}
-use Rattle.room_representation.proofs.lemma_room_lists.KindLaws.{changed_unseen}
-use Rattle.room_representation.proofs.lemma_room_spans.Still.{populate_spans}
+use Rattle.room_representation.proofs.lemma_lists.KindLaws.{changed_unseen}
+use Rattle.room_representation.proofs.lemma_spans.Still.{populate_spans}
 use Rattle.room_representation.specs.declared.parts.Parts.{Parts}
 use Rattle.room_representation.specs.Held.{AreHeld}
 use Rattle.room_representation.specs.Pages.{ArePooled}
 use Rattle.room_representation.specs.Represents.{Represents}
-use Rattle.room_representation.proofs.lemma_room_jobs.Packets.{nothing_beyond}
-use Rattle.room_representation.proofs.lemma_room_bytes.Lowest.{pool_first, lowest_is_unheld}
-use Rattle.room_representation.proofs.lemma_room_bytes.Pools.{populate_pooled}
-use Rattle.room_representation.proofs.lemma_room_bytes.SlotKinds.{populate_slots}
-use Rattle.room_representation.proofs.lemma_room_bytes.Telling.{to_fill}
-use Rattle.room_representation.proofs.lemma_room_bytes.Fills.{populate_stores}
-use Rattle.room_representation.proofs.room_steps.Steps.{held_after, step_as}
-use Rattle.room_representation.proofs.room_steps.Frames.{changed_bos}
+use Rattle.room_representation.proofs.lemma_jobs.Packets.{nothing_beyond}
+use Rattle.room_representation.proofs.lemma_bytes.Lowest.{pool_first, lowest_is_unheld}
+use Rattle.room_representation.proofs.lemma_bytes.Pools.{populate_pooled}
+use Rattle.room_representation.proofs.lemma_bytes.SlotKinds.{populate_slots}
+use Rattle.room_representation.proofs.lemma_bytes.Telling.{to_fill}
+use Rattle.room_representation.proofs.lemma_bytes.Fills.{populate_stores}
+use Rattle.room_representation.proofs.steps.Steps.{held_after, step_as}
+use Rattle.room_representation.proofs.steps.Frames.{changed_bos}
 
 -- a live buffer out of TT, whose page was never written, gets the lowest free frame
 record IsFresh (script : Script) (s : State) (b : BufId) (page f : ℕ) : Type 0 where
@@ -72,7 +72,7 @@ module _ (script : Script) (journal : List Entry) (p : Parts) (entry : Entry) (t
       (subst (λ (y : Entry). Represents script (world_after script w y).state (world_after script w y).stores q) (sym is)
       (record {
         bos = changed_bos (with_loc page (loc.Frame f)) (λ x. refl) (λ x. refl) script s.core.buffers s.reservations s.last_jobs p.bos represents.bos b bos e;
-        line = represents.line;
+        timeline = represents.timeline;
         rings = represents.rings;
         ghosts = represents.ghosts;
         vram = record { rule = represents.vram.rule; held_as = populate_spans script.sizes.vram Vram s p.vram.resources represents.vram.held_as b page f; fence = represents.vram.fence };

@@ -33,20 +33,20 @@ use Rattle.laws.proofs.law_sound.Gifts.{Gives, makes, seeks, fills}
 use Rattle.laws.specs.lemma_bytes_told.Told as told
 use Rattle.laws.specs.lemma_bytes_told.Told.{Told}
 use Rattle.laws.proofs.law_transparent.Carried.{told_law}
-use Rattle.room_representation.specs.lemma_room_lists.Listed.{listing_as, HasLists}
-use Rattle.room_representation.proofs.lemma_room_lists.KindLaws.{new_lists}
-use Rattle.room_representation.proofs.lemma_room_lists.ScriptLaws.{may_be_listed}
-use Rattle.room_representation.proofs.lemma_room_spans.Still.{new_spans}
+use Rattle.room_representation.specs.lemma_lists.Listed.{listing_as, HasLists}
+use Rattle.room_representation.proofs.lemma_lists.KindLaws.{new_lists}
+use Rattle.room_representation.proofs.lemma_lists.ScriptLaws.{may_be_listed}
+use Rattle.room_representation.proofs.lemma_spans.Still.{new_spans}
 use Rattle.room_representation.specs.declared.parts.Parts.{Parts}
 use Rattle.room_representation.specs.Bos.{AreBos, unfenced}
 use Rattle.room_representation.specs.Held.{AreHeld}
 use Rattle.room_representation.specs.Represents.{Represents}
-use Rattle.room_representation.proofs.lemma_room_jobs.Sets.{fences_cleared}
-use Rattle.room_representation.proofs.lemma_room_jobs.Packets.{nothing_beyond}
-use Rattle.room_representation.proofs.lemma_room_bytes.Others.{new_same, pool_stays, new_slots}
-use Rattle.room_representation.proofs.lemma_room_bytes.Fills.{new_stores}
-use Rattle.room_representation.specs.room_steps.Courses.{course_at, with_course_by}
-use Rattle.room_representation.proofs.room_steps.Steps.{held_after, step_as, thread_stepped, thread_there}
+use Rattle.room_representation.proofs.lemma_jobs.Sets.{fences_cleared}
+use Rattle.room_representation.proofs.lemma_jobs.Packets.{nothing_beyond}
+use Rattle.room_representation.proofs.lemma_bytes.Others.{new_same, pool_stays, new_slots}
+use Rattle.room_representation.proofs.lemma_bytes.Fills.{new_stores}
+use Rattle.room_representation.specs.steps.Courses.{course_at, with_course_by}
+use Rattle.room_representation.proofs.steps.Steps.{held_after, step_as, thread_stepped, thread_there}
 
 -- what is there at a number of the list
 some_below : {X : Type 0} (xs : List X) (i : ℕ) → i < length xs → (x : X) × (slice_get xs i ≡ Some x)
@@ -133,7 +133,7 @@ module _ (script : Script) (journal : List Entry) (p : Parts) (entry : Entry) (t
       (subst (λ (y : Entry). Represents script (world_after script w y).state (world_after script w y).stores q) (sym is)
       (record {
         bos = subst (λ x. AreBos script (after_new script s t b).core.buffers (after_new script s t b).reservations s.last_jobs x) (sym g) (made_bos script s.core.buffers s.reservations s.last_jobs p.bos represents.bos b make_declared old.0 old.1);
-        line = represents.line;
+        timeline = represents.timeline;
         rings = represents.rings;
         ghosts = represents.ghosts;
         vram = record { rule = represents.vram.rule; held_as = new_spans script.sizes.vram Vram s p.vram.resources represents.vram.held_as script t b dead; fence = represents.vram.fence };

@@ -19,13 +19,13 @@ use Rattle.room_representation.specs.declared.parts.Parts.{Parts}
 use Rattle.room_representation.specs.Lines.{AreInLine}
 use Rattle.room_representation.specs.Held.{AreHeld}
 use Rattle.room_representation.specs.Represents.{Represents}
-use Rattle.room_representation.proofs.lemma_room_jobs.Changed.{job_id, line_known, line_some}
-use Rattle.room_representation.proofs.lemma_room_jobs.Heads as heads
-use Rattle.room_representation.proofs.lemma_room_jobs.Heads.{IsEnd, IsRun, end_of, run_of}
-use Rattle.room_representation.proofs.lemma_room_jobs.LegalJobs.{in_line, packet_shown}
-use Rattle.room_representation.proofs.lemma_room_jobs.Rows.{head_known}
-use Rattle.room_representation.proofs.lemma_room_jobs.Represented.{done_represented, packet_runs, packet_represented}
-use Rattle.room_representation.proofs.room_steps.Steps.{held_after, held_still, step_as}
+use Rattle.room_representation.proofs.lemma_jobs.Changed.{job_id, line_known, line_some}
+use Rattle.room_representation.proofs.lemma_jobs.Heads as heads
+use Rattle.room_representation.proofs.lemma_jobs.Heads.{IsEnd, IsRun, end_of, run_of}
+use Rattle.room_representation.proofs.lemma_jobs.LegalJobs.{in_line, packet_shown}
+use Rattle.room_representation.proofs.lemma_jobs.Rows.{head_known}
+use Rattle.room_representation.proofs.lemma_jobs.Represented.{done_represented, packet_runs, packet_represented}
+use Rattle.room_representation.proofs.steps.Steps.{held_after, held_still, step_as}
 
 -- ---- a job is done
 
@@ -49,18 +49,18 @@ module _ (script : Script) (journal : List Entry) (p : Parts) (entry : Entry) (e
   pub done_over : next_of p.rings e ≡ None
   done_over = heads.ring_over (state_of script journal).core.jobs (state_of script journal).last_jobs p.rings held.represents.rings e n done_context done_end.job done_end.head done_end.over
 
-  pub done_known : e < length p.line
-  done_known = line_known (state_of script journal).core.jobs (state_of script journal).last_jobs done_rows e n done_context done_end.job done_end.head p.line held.represents.line
+  pub done_known : e < length p.timeline
+  done_known = line_known (state_of script journal).core.jobs (state_of script journal).last_jobs done_rows e n done_context done_end.job done_end.head p.timeline held.represents.timeline
 
-  pub done_some : (progress_of p.line e).done < (progress_of p.line e).emitted
-  done_some = line_some (state_of script journal).core.jobs (state_of script journal).last_jobs done_rows e n done_context done_end.job done_end.head p.line held.represents.line
+  pub done_some : (progress_of p.timeline e).done < (progress_of p.timeline e).emitted
+  done_some = line_some (state_of script journal).core.jobs (state_of script journal).last_jobs done_rows e n done_context done_end.job done_end.head p.timeline held.represents.timeline
 
-  pub done_held : (rings : List (List Pushed)) (line : List Progress) → rings ≡ without_head p.rings e → line ≡ with_done p.line e →
-      AreHeld script (journal ++ entry ∷ []) (record p { rings = rings; line = line })
-  done_held rings line r l =
-      held_still script journal p (record p { rings = rings; line = line }) entry (record { who = actor.Engine e; kind = kind.Done n }) held is legal refl
-      (subst (λ x. Represents script (after_done (state_of script journal) (job_id e n)) (stores_of script journal) (record p { rings = x; line = line })) (sym r)
-      (subst (λ y. Represents script (after_done (state_of script journal) (job_id e n)) (stores_of script journal) (record p { rings = without_head p.rings e; line = y })) (sym l)
+  pub done_held : (rings : List (List Pushed)) (timeline : List Progress) → rings ≡ without_head p.rings e → timeline ≡ with_done p.timeline e →
+      AreHeld script (journal ++ entry ∷ []) (record p { rings = rings; timeline = timeline })
+  done_held rings timeline r l =
+      held_still script journal p (record p { rings = rings; timeline = timeline }) entry (record { who = actor.Engine e; kind = kind.Done n }) held is legal refl
+      (subst (λ x. Represents script (after_done (state_of script journal) (job_id e n)) (stores_of script journal) (record p { rings = x; timeline = timeline })) (sym r)
+      (subst (λ y. Represents script (after_done (state_of script journal) (job_id e n)) (stores_of script journal) (record p { rings = without_head p.rings e; timeline = y })) (sym l)
       (done_represented script (state_of script journal) (stores_of script journal) p held.represents done_rows e n done_end)))
 
 -- ---- a packet has run

@@ -35,30 +35,30 @@ use Rattle.laws.proofs.law_transparent.PagesLaw.{ghosts_law}
 use Rattle.laws.proofs.law_transparent.Carried.{told_law}
 use Rattle.laws.specs.lemma_bytes_told.Told as told
 use Rattle.laws.specs.lemma_bytes_told.Told.{IsThere, Told}
-use Rattle.room_representation.specs.lemma_room_spans.Calls.{taken}
-use Rattle.room_representation.specs.lemma_room_spans.Owned.{HoldsAsIn}
-use Rattle.room_representation.proofs.lemma_room_spans.Facts.{no_target}
-use Rattle.room_representation.proofs.lemma_room_spans.MoveFence.{taken_fence}
-use Rattle.room_representation.proofs.lemma_room_spans.Legal.{take_sought}
-use Rattle.room_representation.proofs.lemma_room_spans.Still.{kept_representation}
-use Rattle.room_representation.proofs.lemma_room_spans.Taken.{take_may_hold}
-use Rattle.room_representation.proofs.lemma_room_spans.Targets.{take_spans}
+use Rattle.room_representation.specs.lemma_spans.Calls.{taken}
+use Rattle.room_representation.specs.lemma_spans.Owned.{HoldsAsIn}
+use Rattle.room_representation.proofs.lemma_spans.Facts.{no_target}
+use Rattle.room_representation.proofs.lemma_spans.MoveFence.{taken_fence}
+use Rattle.room_representation.proofs.lemma_spans.Legal.{take_sought}
+use Rattle.room_representation.proofs.lemma_spans.Still.{kept_representation}
+use Rattle.room_representation.proofs.lemma_spans.Taken.{take_may_hold}
+use Rattle.room_representation.proofs.lemma_spans.Targets.{take_spans}
 use Rattle.room_representation.specs.declared.parts.Parts.{Parts}
 use Rattle.room_representation.specs.Bos.{AreBos, unfenced}
 use Rattle.room_representation.specs.Fences.{fences_of, is_emitted, AreFences}
 use Rattle.room_representation.specs.Held.{AreHeld}
 use Rattle.room_representation.specs.Represents.{Represents}
-use Rattle.room_representation.proofs.lemma_room_jobs.Sets.{fences_kept, set_length}
-use Rattle.room_representation.proofs.lemma_room_jobs.Stays.{KeepsPlaces}
-use Rattle.room_representation.proofs.lemma_room_jobs.Told.{unfenced_as}
-use Rattle.room_representation.proofs.lemma_room_jobs.BufferSets.{taken_sets, taken_fences}
-use Rattle.room_representation.proofs.lemma_room_jobs.LegalJobs.{in_line}
-use Rattle.room_representation.specs.room_steps.Courses.{course_at, with_course_by}
+use Rattle.room_representation.proofs.lemma_jobs.Sets.{fences_kept, set_length}
+use Rattle.room_representation.proofs.lemma_jobs.Stays.{KeepsPlaces}
+use Rattle.room_representation.proofs.lemma_jobs.Told.{unfenced_as}
+use Rattle.room_representation.proofs.lemma_jobs.BufferSets.{taken_sets, taken_fences}
+use Rattle.room_representation.proofs.lemma_jobs.LegalJobs.{in_line}
+use Rattle.room_representation.specs.steps.Courses.{course_at, with_course_by}
 use Rattle.room_parts.specs.MoveSets.{with_move_fence, CanJoin}
 use Rattle.room_parts.specs.Takes.{CanHold}
-use Rattle.room_representation.proofs.room_steps.Lent.{stands_at}
-use Rattle.room_representation.proofs.room_steps.Frames.{eased_represented, placed_represented}
-use Rattle.room_representation.proofs.room_steps.Steps.{held_still, step_as, thread_there}
+use Rattle.room_representation.proofs.steps.Lent.{stands_at}
+use Rattle.room_representation.proofs.steps.Frames.{eased_represented, placed_represented}
+use Rattle.room_representation.proofs.steps.Steps.{held_still, step_as, thread_there}
 
 -- ---- fences that a target brings
 
@@ -83,9 +83,9 @@ emitted_num : (last : List ℕ) (i : JobId) → is_emitted last i ≡ true → 0
 emitted_num last i h = grind (arith, nat_tests)
 
 -- the sets by the words of the lemma on them
-sets_same : (sets : List (List Latest)) (b : BufId) (line : List Progress) (kept : Option JobId) → taken_sets sets b line kept ≡ with_move_fence Vram line kept sets b
-sets_same sets b line None = refl
-sets_same sets b line (Some i) = refl
+sets_same : (sets : List (List Latest)) (b : BufId) (timeline : List Progress) (kept : Option JobId) → taken_sets sets b timeline kept ≡ with_move_fence Vram timeline kept sets b
+sets_same sets b timeline None = refl
+sets_same sets b timeline (Some i) = refl
 
 -- ---- nothing was taken
 
@@ -99,7 +99,7 @@ take_refused script journal p held v u same rule e =
       legal = held.legal;
       represents = record {
         bos = represents.bos;
-        line = represents.line;
+        timeline = represents.timeline;
         rings = represents.rings;
         ghosts = represents.ghosts;
         vram = record {
@@ -154,14 +154,14 @@ module _ (script : Script) (journal : List Entry) (p : Parts) (entry : Entry) (t
   fence_is v ve = ap (λ (r : Resources). r.move_fence) ve ∙ taken_fence Vram mem b spans p.vram.resources
 
   pub take_joins : (v : room.Vram) (mid : Bos) (fence : Option JobId) → v.resources ≡ taken Vram mem b spans p.vram.resources → mid ≡ with_changed (with_spans mem (Some spans)) p.bos b → fence ≡ v.resources.move_fence →
-      (i : JobId) → fence ≡ Some i → CanJoin p.line mid.fences b i
+      (i : JobId) → fence ≡ Some i → CanJoin p.timeline mid.fences b i
   take_joins v mid fence ve m fe i e =
       let emitted : is_emitted s.last_jobs i ≡ true = held.represents.vram.fence.known i (sym held.represents.vram.fence.kept_is ∙ sym (fence_is v ve) ∙ sym fe ∙ e) in
       let set : slice_get mid.fences b.0 ≡ Some (set_of (length s.last_jobs) (fences_of (Some (buffer s b)))) =
       ap (λ (x : Bos). slice_get x.fences b.0) m ∙ ap (λ l. slice_get l b.0) held.represents.bos.fences_are.sets_are ∙ get_map (λ o. set_of (length s.last_jobs) (fences_of o)) s.core.buffers b.0
       ∙ ap (option_map (λ o. set_of (length s.last_jobs) (fences_of o))) (stands_at s.core.buffers b (buffer s b) live) in
       let known = emitted_ctx s.last_jobs i emitted in
-      let many = held.represents.line.contexts in
+      let many = held.represents.timeline.contexts in
       record {
         in_line = omega (arith, known, many);
         in_set = λ x k. joined x (sym set ∙ k);
@@ -189,10 +189,10 @@ module _ (script : Script) (journal : List Entry) (p : Parts) (entry : Entry) (t
       }
 
   -- the sets of jobs afterwards
-  sets_then : (m : Mem) → AreFences s.last_jobs (changed (taking m) s.core.buffers b) (with_move_fence m p.line p.vram.resources.move_fence p.bos.fences b)
+  sets_then : (m : Mem) → AreFences s.last_jobs (changed (taking m) s.core.buffers b) (with_move_fence m p.timeline p.vram.resources.move_fence p.bos.fences b)
   sets_then Vram =
-      subst (λ l. AreFences s.last_jobs (changed (taking Vram) s.core.buffers b) l) (sets_same p.bos.fences b p.line p.vram.resources.move_fence)
-      (taken_fences s p.bos.fences held.represents.bos.fences_are b (buffer s b) live p.line (in_line script journal held.fits held.legal) held.represents.line p.vram.resources.move_fence held.represents.vram.fence (Some spans))
+      subst (λ l. AreFences s.last_jobs (changed (taking Vram) s.core.buffers b) l) (sets_same p.bos.fences b p.timeline p.vram.resources.move_fence)
+      (taken_fences s p.bos.fences held.represents.bos.fences_are b (buffer s b) live p.timeline (in_line script journal held.fits held.legal) held.represents.timeline p.vram.resources.move_fence held.represents.vram.fence (Some spans))
   sets_then Tt = fences_kept s.last_jobs (with_spans Tt (Some spans)) (λ x. refl) s.core.buffers b p.bos.fences held.represents.bos.fences_are
   sets_then System = fences_kept s.last_jobs (with_spans System (Some spans)) (λ x. refl) s.core.buffers b p.bos.fences held.represents.bos.fences_are
 
@@ -215,13 +215,13 @@ module _ (script : Script) (journal : List Entry) (p : Parts) (entry : Entry) (t
       (no_target mine (buffer s b) (k.untargeted out), (can_hold mine out e r representation).some)
 
   pub take_held : (v : room.Vram) (u : Resources) (mid bos : Bos) (fence : Option JobId) (courses : List Course) → v.resources ≡ taken Vram mem b spans p.vram.resources → room.spans_of_kind v.kind ≡ room.spans_of_kind p.vram.kind →
-      u ≡ taken Tt mem b spans p.tt → mid ≡ with_changed (with_spans mem (Some spans)) p.bos b → fence ≡ v.resources.move_fence → bos ≡ record mid { fences = with_move_fence mem p.line fence mid.fences b } →
+      u ≡ taken Tt mem b spans p.tt → mid ≡ with_changed (with_spans mem (Some spans)) p.bos b → fence ≡ v.resources.move_fence → bos ≡ record mid { fences = with_move_fence mem p.timeline fence mid.fences b } →
       courses ≡ with_course_by (search_over b) p.courses t → AreHeld script (journal ++ entry ∷ []) (record p { vram = v; tt = u; bos = bos; courses = courses })
   take_held v u mid bos fence courses ve rule ue m fe be c =
       let bs = s.core.buffers in
       let kept : fence ≡ p.vram.resources.move_fence = fe ∙ fence_is v ve in
-      let sets : bos.fences ≡ with_move_fence mem p.line p.vram.resources.move_fence p.bos.fences b =
-      ap (λ (x : Bos). x.fences) be ∙ ap (λ (x : Bos). with_move_fence mem p.line fence x.fences b) m ∙ ap (λ k. with_move_fence mem p.line k p.bos.fences b) kept in
+      let sets : bos.fences ≡ with_move_fence mem p.timeline p.vram.resources.move_fence p.bos.fences b =
+      ap (λ (x : Bos). x.fences) be ∙ ap (λ (x : Bos). with_move_fence mem p.timeline fence x.fences b) m ∙ ap (λ k. with_move_fence mem p.timeline k p.bos.fences b) kept in
       let table : AreBos script (changed (taking mem) bs b) s.reservations s.last_jobs bos =
       record {
         buffers_are = ap (λ (x : Bos). x.buffers) be ∙ ap (λ (x : Bos). x.buffers) m ∙ ap (λ xs. changed (with_spans mem (Some spans)) xs b) held.represents.bos.buffers_are

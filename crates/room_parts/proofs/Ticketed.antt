@@ -19,13 +19,13 @@ use Rattle.ttm_base.specs.declared.Deny.{Deny}
 use Rattle.laws.proofs.law_sound.Along.{Stepped, sound_law}
 use Rattle.laws.proofs.law_sound.Gifts.{Gives, reserves, draws, seeks, fills}
 use Rattle.laws.proofs.law_counters.Law.{counters_law}
-use Rattle.room_representation.proofs.lemma_room_lists.KindLaws.{reservation_changed_unseen, released_unseen}
+use Rattle.room_representation.proofs.lemma_lists.KindLaws.{reservation_changed_unseen, released_unseen}
 use Rattle.room_representation.specs.declared.parts.Parts.{Parts}
 use Rattle.room_representation.specs.Held.{AreHeld}
-use Rattle.room_representation.specs.room_steps.Courses.{course_at, course_in, with_course_by, stamped, with_held, begun_anew}
-use Rattle.room_representation.proofs.room_steps.Steps.{held_still, thread_stepped, thread_there}
-use Rattle.room_representation.proofs.room_steps.Few.{few_commands}
-use Rattle.room_representation.proofs.room_steps.Frames.{eased_represented}
+use Rattle.room_representation.specs.steps.Courses.{course_at, course_in, with_course_by, stamped, with_held, begun_anew}
+use Rattle.room_representation.proofs.steps.Steps.{held_still, thread_stepped, thread_there}
+use Rattle.room_representation.proofs.steps.Few.{few_commands}
+use Rattle.room_representation.proofs.steps.Frames.{eased_represented}
 
 -- nothing was made
 pub courses_same : (script : Script) (journal : List Entry) (p : Parts) → AreHeld script journal p → (courses : List Course) → courses ≡ p.courses → AreHeld script journal (record p { courses = courses })

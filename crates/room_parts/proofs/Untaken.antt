@@ -15,16 +15,16 @@ use Rattle.journal_model.specs.rules.ApplyPages.{with_spans, after_untake}
 use Rattle.journal_model.specs.rules.Legal.{IsLegalNext, state_of, stores_of, world_of}
 use Rattle.laws.specs.lemma_bytes_told.Told.{IsThere, Told, still, untakes}
 use Rattle.laws.proofs.law_transparent.Carried.{told_law}
-use Rattle.room_representation.specs.lemma_room_spans.Calls.{untaken}
-use Rattle.room_representation.proofs.lemma_room_spans.Targets.{untake_spans}
+use Rattle.room_representation.specs.lemma_spans.Calls.{untaken}
+use Rattle.room_representation.proofs.lemma_spans.Targets.{untake_spans}
 use Rattle.ttm_base.specs.declared.Span.{Span}
 use Rattle.room_representation.specs.declared.parts.Parts.{Parts}
 use Rattle.room_representation.specs.Held.{AreHeld}
 use Rattle.room_representation.specs.Managers.{IsTt}
-use Rattle.room_representation.specs.lemma_room_spans.Owned.{HoldsAsOwned}
-use Rattle.room_representation.proofs.lemma_room_spans.MoveFence.{untaken_fence}
-use Rattle.room_representation.proofs.room_steps.Steps.{held_still, step_as}
-use Rattle.room_representation.proofs.room_steps.Frames.{LeavesInPlace, changed_represented}
+use Rattle.room_representation.specs.lemma_spans.Owned.{HoldsAsOwned}
+use Rattle.room_representation.proofs.lemma_spans.MoveFence.{untaken_fence}
+use Rattle.room_representation.proofs.steps.Steps.{held_still, step_as}
+use Rattle.room_representation.proofs.steps.Frames.{LeavesInPlace, changed_represented}
 
 -- another target, or none, leaves a buffer in its place
 pub target_stays : (mem : Mem) (spans : Option (List Span)) → LeavesInPlace (with_spans mem spans)

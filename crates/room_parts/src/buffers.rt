@@ -7,7 +7,7 @@ ghost use Rattle.room_representation.specs.Nexts.{Next};
 
 use journal_model::Script;
 use room_representation::Parts;
-use room_representation::room_steps::has_made;
+use room_representation::steps::has_made;
 use ttm_base::{BufId, Mem, NoMemory};
 
 /// Makes buffer `b`, in SYSTEM and without a frame, and puts it on its list.

@@ -19,7 +19,7 @@ pub fn done(parts: &mut Parts, ctx: u32, num: u64)
     ensures { AreHeld w.script (w.before ++ w.entry ∷ []) parts.new }
 {
     parts.rings.finish(ctx);
-    parts.line.done(ctx);
+    parts.timeline.done(ctx);
 }
 
 /// Runs the next packet, `k`, of the head of context `ctx`. What a probe shows is in the entry already.

@@ -6,7 +6,7 @@ ghost use Rattle.room_representation.specs.Held.{AreHeld};
 ghost use Rattle.room_representation.specs.Nexts.{Next};
 
 use room_representation::Parts;
-use room_representation::room_steps::has_made;
+use room_representation::steps::has_made;
 
 /// Moves the buffers of `group` on their lists, so that they count as just used.
 pub fn bulk(parts: &mut Parts, thread: u32, group: u32)

@@ -6,7 +6,7 @@ ghost use Rattle.ttm_base.specs.declared.Owner.TheVariants as owner;
 ghost use Rattle.journal_model.specs.declared.entry.Kind.TheVariants as kind;
 ghost use Rattle.journal_model.specs.rules.Legal.{IsLegalNext, world_of};
 ghost use Rattle.resource_core.specs.Vram.{spans_of_kind};
-ghost use Rattle.room_representation.specs.lemma_room_spans.Calls.{taken, untaken};
+ghost use Rattle.room_representation.specs.lemma_spans.Calls.{taken, untaken};
 ghost use Rattle.room_parts.specs.Takes.{CanHold};
 ghost use Rattle.room_representation.specs.Held.{AreHeld};
 ghost use Rattle.room_representation.specs.Nexts.{Next};
@@ -16,7 +16,7 @@ use bo_table::BoTable;
 use fence_core::Timeline;
 use resource_core::{Manager, RangeRoom, VramRoom};
 use room_representation::Parts;
-use room_representation::room_steps::end_search;
+use room_representation::steps::end_search;
 use ttm_base::{BufId, JobId, Mem, NoMemory, Owner, Spans, Usage};
 
 /// Gives the target of buffer `b` back to VRAM, if it is there.
@@ -77,14 +77,14 @@ fn hold_target(
 }
 
 /// Adds the move fence to the fences of buffer `b`, where its target is in VRAM and the fence isn't signalled.
-fn add_move_fence(bos: &mut BoTable, b: BufId, mem: Mem, line: &Timeline, fence: Option<JobId>)
-    requires { (i : Id) → fence ≡ Some i → CanJoin line.now bos.old.fences b i }
-    ensures { bos.new ≡ record bos.old { fences = with_move_fence mem line.now fence bos.old.fences b } }
+fn add_move_fence(bos: &mut BoTable, b: BufId, mem: Mem, timeline: &Timeline, fence: Option<JobId>)
+    requires { (i : Id) → fence ≡ Some i → CanJoin timeline.now bos.old.fences b i }
+    ensures { bos.new ≡ record bos.old { fences = with_move_fence mem timeline.now fence bos.old.fences b } }
 {
     let Some(job) = fence else {
         return;
     };
-    let signalled = line.signalled(job);
+    let signalled = timeline.signalled(job);
     if mem == Mem::Vram && !signalled {
         bos.add_fence(b, job, Usage::Kernel);
     }
@@ -109,7 +109,7 @@ pub fn take(
     hold_target(&mut parts.vram, &mut parts.tt, b, mem, spans)?;
     parts.bos.set_target(b, mem, Some(target));
     let fence = parts.vram.move_fence();
-    add_move_fence(&mut parts.bos, b, mem, &parts.line, fence);
+    add_move_fence(&mut parts.bos, b, mem, &parts.timeline, fence);
     end_search(&mut parts.courses, thread, b);
     Ok(())
 }

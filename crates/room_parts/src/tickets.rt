@@ -6,7 +6,7 @@ ghost use Rattle.room_representation.specs.Held.{AreHeld};
 ghost use Rattle.room_representation.specs.Nexts.{Next};
 
 use room_representation::Parts;
-use room_representation::room_steps::{
+use room_representation::steps::{
     begin_anew, give_ticket, go_on, held_by, hold, hold_for, release_all, stamp_of,
 };
 use std::alloc::Global;

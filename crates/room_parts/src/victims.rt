@@ -6,13 +6,13 @@ ghost use Rattle.journal_model.specs.rules.Commands.{decl};
 ghost use Rattle.journal_model.specs.rules.Legal.{IsLegalNext, world_of};
 ghost use Rattle.room_representation.specs.Held.{AreHeld};
 ghost use Rattle.room_representation.specs.Nexts.{Next};
-ghost use Rattle.room_representation.specs.room_steps.Courses.{course_at, with_course_by};
+ghost use Rattle.room_representation.specs.steps.Courses.{course_at, with_course_by};
 ghost use Rattle.room_parts.specs.Dries.{dried, searched_places};
 
 use journal_model::{Command, Courses, DryWhy, Script, Targets, Why};
 use place_list::forced_count;
 use room_representation::Parts;
-use room_representation::room_steps::{
+use room_representation::steps::{
     add_victim, command_of, fail_search, forget_victim, go_dry, hold_for, skip_victim, stamp_of,
     touch,
 };

@@ -21,9 +21,9 @@ use Rattle.journal_model.specs.rules.Legal.{state_of}
 use Rattle.laws.proofs.law_transparent.PagesLaw.{ghosts_law}
 use Rattle.laws.proofs.law_state.JobsKeep.{all_at}
 use Rattle.laws.proofs.law_state.Rules.{rules_of}
-use Rattle.room_representation.specs.lemma_room_spans.Owned.{FirstOfNumber, HoldsAsOwned}
-use Rattle.room_representation.proofs.lemma_room_spans.Chosen.{tt_choice, vram_choice}
-use Rattle.room_representation.proofs.lemma_room_spans.Declared.{IsRequest}
+use Rattle.room_representation.specs.lemma_spans.Owned.{FirstOfNumber, HoldsAsOwned}
+use Rattle.room_representation.proofs.lemma_spans.Chosen.{tt_choice, vram_choice}
+use Rattle.room_representation.proofs.lemma_spans.Declared.{IsRequest}
 use Rattle.room_representation.specs.declared.parts.Parts.{Parts}
 use Rattle.room_representation.specs.Held.{AreHeld}
 use Rattle.room_queries.proofs.Known.{get_below}
@@ -46,7 +46,7 @@ module _ (script : Script) (journal : List Entry) (p : Parts) (held : AreHeld sc
         legal = held.legal;
         represents = record {
           bos = t.bos;
-          line = t.line;
+          timeline = t.timeline;
           rings = t.rings;
           ghosts = t.ghosts;
           vram = record {

@@ -22,11 +22,11 @@ use Rattle.laws.proofs.law_transparent.PacketPlacesLaw.{places_law}
 use Rattle.room_representation.specs.declared.parts.Parts.{Parts}
 use Rattle.room_representation.specs.RingJobs.{IsRing}
 use Rattle.room_representation.specs.Held.{AreHeld}
-use Rattle.room_representation.proofs.lemma_room_jobs.Lists.{filtered_at, find_is}
-use Rattle.room_representation.proofs.lemma_room_jobs.Needs.{head_waits}
-use Rattle.room_representation.proofs.lemma_room_jobs.Heads.{IsHead}
-use Rattle.room_representation.proofs.lemma_room_jobs.Packets.{can_run, shows_same}
-use Rattle.room_representation.proofs.lemma_room_jobs.Rows.{head_named}
+use Rattle.room_representation.proofs.lemma_jobs.Lists.{filtered_at, find_is}
+use Rattle.room_representation.proofs.lemma_jobs.Needs.{head_waits}
+use Rattle.room_representation.proofs.lemma_jobs.Heads.{IsHead}
+use Rattle.room_representation.proofs.lemma_jobs.Packets.{can_run, shows_same}
+use Rattle.room_representation.proofs.lemma_jobs.Rows.{head_named}
 use Rattle.room_queries.specs.Heads.{number_left, piece_left, head_piece}
 use Rattle.room_queries.proofs.Known.{rows, context_known}
 
@@ -85,9 +85,9 @@ module _ (script : Script) (journal : List Entry) (p : Parts) (held : AreHeld sc
   ]
 
   -- what it waits for
-  pub front_waits : option_and_then (wait_of p.line) (pushes.head_of p.rings ctx) ≡ option_and_then (λ (j : Job). waited_for (state_of script journal).core j.waits) (head_of (state_of script journal) ctx)
+  pub front_waits : option_and_then (wait_of p.timeline) (pushes.head_of p.rings ctx) ≡ option_and_then (λ (j : Job). waited_for (state_of script journal).core j.waits) (head_of (state_of script journal) ctx)
   front_waits =
-      head_waits (state_of script journal).core.jobs (state_of script journal).last_jobs p.line (rows script journal p held) held.represents.line p.rings held.represents.rings ctx (context_known script journal p held ctx known)
+      head_waits (state_of script journal).core.jobs (state_of script journal).last_jobs p.timeline (rows script journal p held) held.represents.timeline p.rings held.represents.rings ctx (context_known script journal p held ctx known)
 
   -- where it is none, the state's has none
   pub none_left : option_map (λ (q : Pushed). q.job) (pushes.head_of p.rings ctx) ≡ None → head_of (state_of script journal) ctx ≡ None

@@ -13,7 +13,7 @@ use Rattle.laws.proofs.law_sound.Along.{sound_law}
 use Rattle.room_representation.specs.declared.parts.Parts.{Parts}
 use Rattle.room_representation.specs.Held.{AreHeld}
 use Rattle.room_representation.specs.Lines.{AreInLine}
-use Rattle.room_representation.proofs.lemma_room_jobs.LegalJobs.{in_line}
+use Rattle.room_representation.proofs.lemma_jobs.LegalJobs.{in_line}
 
 -- a number below a list's length has something
 pub get_below : {X : Type 0} (xs : List X) (i : ℕ) → i < length xs → (x : X) × (slice_get xs i ≡ Some x)
@@ -37,20 +37,20 @@ module _ (script : Script) (journal : List Entry) (p : Parts) (held : AreHeld sc
   context_known ctx h = let rooms = (good_law script held.fits journal held.legal).jobs.rooms in omega (arith, h, rooms)
 
   -- of the timeline
-  pub line_context : (ctx : ℕ) → ctx ≤ script.sizes.engines → ctx < length p.line
-  line_context ctx h = let k = context_known ctx h in let same = held.represents.line.contexts in omega (arith, k, same)
+  pub line_context : (ctx : ℕ) → ctx ≤ script.sizes.engines → ctx < length p.timeline
+  line_context ctx h = let k = context_known ctx h in let same = held.represents.timeline.contexts in omega (arith, k, same)
 
   -- and of the rings
   pub ring_context : (ctx : ℕ) → ctx ≤ script.sizes.engines → ctx < length p.rings
   ring_context ctx h = let k = context_known ctx h in let same = held.represents.rings.contexts in omega (arith, k, same)
 
   -- timeline and rings have the same contexts
-  pub line_rings : length p.line ≡ length p.rings
-  line_rings = held.represents.line.contexts ∙ sym held.represents.rings.contexts
+  pub line_rings : length p.timeline ≡ length p.rings
+  line_rings = held.represents.timeline.contexts ∙ sym held.represents.rings.contexts
 
   -- the next job of a context
-  pub job_next : (ctx n : ℕ) → ctx ≤ script.sizes.engines → n ≡ (progress_of p.line ctx).emitted + 1 → n ≡ next_job (state_of script journal) ctx
-  job_next ctx n h e = e ∙ ap (λ q. q.emitted + 1) (held.represents.line.each ctx (context_known ctx h))
+  pub job_next : (ctx n : ℕ) → ctx ≤ script.sizes.engines → n ≡ (progress_of p.timeline ctx).emitted + 1 → n ≡ next_job (state_of script journal) ctx
+  job_next ctx n h e = e ∙ ap (λ q. q.emitted + 1) (held.represents.timeline.each ctx (context_known ctx h))
 
   -- there is a next number for a ghost
   pub few_ghosts : p.last_ghost + 1 < 2 ^ 64

@@ -19,8 +19,8 @@ use Rattle.room_representation.specs.declared.parts.Ghost.{Ghost}
 use Rattle.room_representation.specs.Fences.{fences_of, set_at}
 use Rattle.room_representation.specs.Ghosts.{AreGhosts}
 use Rattle.room_representation.specs.Held.{AreHeld}
-use Rattle.room_representation.proofs.lemma_room_jobs.Needs.{set_is, write_waits, read_waits, ghost_waits}
-use Rattle.room_representation.proofs.lemma_room_jobs.Sets.{set_length, waits_length}
+use Rattle.room_representation.proofs.lemma_jobs.Needs.{set_is, write_waits, read_waits, ghost_waits}
+use Rattle.room_representation.proofs.lemma_jobs.Sets.{set_length, waits_length}
 use Rattle.room_queries.specs.Uses.{covering, jobs_before}
 use Rattle.room_queries.proofs.Known.{get_below, rows, declared_known}
 
@@ -45,38 +45,38 @@ module _ (script : Script) (journal : List Entry) (p : Parts) (held : AreHeld sc
     lent_set = ap (λ o. unwrap_or o []) is.fences
 
     -- the set of a lent buffer has a place for each context
-    pub lent_length : length bo.resv.fences ≡ length p.line
+    pub lent_length : length bo.resv.fences ≡ length p.timeline
     lent_length =
         let at = get_below (state_of script journal).core.buffers b.0 (declared_known script journal p held b declared) in
         ap length (sym lent_set ∙ set_is (state_of script journal).last_jobs (state_of script journal).core.buffers p.bos.fences held.represents.bos.fences_are b at.0 at.1)
-        ∙ set_length (length (state_of script journal).last_jobs) (fences_of at.0) ∙ sym held.represents.line.contexts
+        ∙ set_length (length (state_of script journal).last_jobs) (fences_of at.0) ∙ sym held.represents.timeline.contexts
 
     -- what it asks for, by use
-    pub lent_need : (how : Usage) → needed (covering how) p.line bo.resv.fences ≡ waited_for (state_of script journal).core (jobs_before how (buffer (state_of script journal) b))
-    lent_need how = ap (needed (covering how) p.line) (sym lent_set) ∙ by how
+    pub lent_need : (how : Usage) → needed (covering how) p.timeline bo.resv.fences ≡ waited_for (state_of script journal).core (jobs_before how (buffer (state_of script journal) b))
+    lent_need how = ap (needed (covering how) p.timeline) (sym lent_set) ∙ by how
       where
-        write : needed Read p.line (set_at p.bos.fences b) ≡ waited_for (state_of script journal).core (jobs_before Write (buffer (state_of script journal) b))
+        write : needed Read p.timeline (set_at p.bos.fences b) ≡ waited_for (state_of script journal).core (jobs_before Write (buffer (state_of script journal) b))
         write =
             let at = get_below (state_of script journal).core.buffers b.0 (declared_known script journal p held b declared) in
-            write_waits (state_of script journal).core (state_of script journal).last_jobs p.line (rows script journal p held) held.represents.line p.bos.fences held.represents.bos.fences_are b at.0 at.1
+            write_waits (state_of script journal).core (state_of script journal).last_jobs p.timeline (rows script journal p held) held.represents.timeline p.bos.fences held.represents.bos.fences_are b at.0 at.1
 
-        by : (u : Usage) → needed (covering u) p.line (set_at p.bos.fences b) ≡ waited_for (state_of script journal).core (jobs_before u (buffer (state_of script journal) b))
+        by : (u : Usage) → needed (covering u) p.timeline (set_at p.bos.fences b) ≡ waited_for (state_of script journal).core (jobs_before u (buffer (state_of script journal) b))
         by Kernel = write
         by Write = write
         by Read =
             let at = get_below (state_of script journal).core.buffers b.0 (declared_known script journal p held b declared) in
-            read_waits (state_of script journal).core (state_of script journal).last_jobs p.line (rows script journal p held) held.represents.line p.bos.fences held.represents.bos.fences_are b at.0 at.1
+            read_waits (state_of script journal).core (state_of script journal).last_jobs p.timeline (rows script journal p held) held.represents.timeline p.bos.fences held.represents.bos.fences_are b at.0 at.1
 
   -- the set of a ghost has a place for each context
-  pub ghost_known : (i : ℕ) (r : Ghost) → slice_get p.ghosts i ≡ Some r → length r.jobs ≡ length p.line
-  ghost_known i r e = ghost_length (state_of script journal).core.jobs (state_of script journal).last_jobs (state_of script journal).core.ghosts p.ghosts held.represents.ghosts i r e ∙ sym held.represents.line.contexts
+  pub ghost_known : (i : ℕ) (r : Ghost) → slice_get p.ghosts i ≡ Some r → length r.jobs ≡ length p.timeline
+  ghost_known i r e = ghost_length (state_of script journal).core.jobs (state_of script journal).last_jobs (state_of script journal).core.ghosts p.ghosts held.represents.ghosts i r e ∙ sym held.represents.timeline.contexts
 
   -- a ghost waits for what the state's does
   pub ghost_needs : (i : ℕ) (o : Option Ghost) → slice_get p.ghosts i ≡ o →
-      option_and_then (λ (r : Ghost). needed Read p.line r.jobs) o ≡ option_and_then (λ (g : state.Ghost). waited_for (state_of script journal).core g.jobs) (slice_get (state_of script journal).core.ghosts i)
+      option_and_then (λ (r : Ghost). needed Read p.timeline r.jobs) o ≡ option_and_then (λ (g : state.Ghost). waited_for (state_of script journal).core g.jobs) (slice_get (state_of script journal).core.ghosts i)
   ghost_needs i o e =
-      ap (option_and_then (λ (r : Ghost). needed Read p.line r.jobs)) (sym e)
-      ∙ ghost_waits (state_of script journal).core.jobs (state_of script journal).last_jobs p.line (rows script journal p held) held.represents.line (state_of script journal).core.ghosts p.ghosts held.represents.ghosts i
+      ap (option_and_then (λ (r : Ghost). needed Read p.timeline r.jobs)) (sym e)
+      ∙ ghost_waits (state_of script journal).core.jobs (state_of script journal).last_jobs p.timeline (rows script journal p held) held.represents.timeline (state_of script journal).core.ghosts p.ghosts held.represents.ghosts i
 
   -- the first ghost is the state's
   pub ghost_first : (o : Option Ghost) → slice_get p.ghosts 0 ≡ o → option_map (λ (r : Ghost). r.num) o ≡ option_map (λ (g : state.Ghost). g.num) (slice_get (state_of script journal).core.ghosts 0)

@@ -28,12 +28,12 @@ use Rattle.laws.specs.lemma_bytes_told.Told.{IsThere}
 use Rattle.room_representation.specs.declared.parts.Parts.{Parts}
 use Rattle.room_representation.specs.Bos.{unfenced}
 use Rattle.room_representation.specs.Held.{AreHeld}
-use Rattle.room_representation.proofs.lemma_room_jobs.Lists.{get_map}
-use Rattle.room_representation.proofs.lemma_room_bytes.Walks.{page_held, slots_within}
-use Rattle.room_representation.proofs.lemma_room_bytes.Places.{page_there}
-use Rattle.room_representation.proofs.lemma_room_bytes.Shown.{range_append}
-use Rattle.room_representation.proofs.lemma_room_bytes.Slots.{held_below}
-use Rattle.room_representation.proofs.room_steps.Lent.{is_below, stands_at}
+use Rattle.room_representation.proofs.lemma_jobs.Lists.{get_map}
+use Rattle.room_representation.proofs.lemma_bytes.Walks.{page_held, slots_within}
+use Rattle.room_representation.proofs.lemma_bytes.Places.{page_there}
+use Rattle.room_representation.proofs.lemma_bytes.Shown.{range_append}
+use Rattle.room_representation.proofs.lemma_bytes.Slots.{held_below}
+use Rattle.room_representation.proofs.steps.Lent.{is_below, stands_at}
 use Rattle.room_queries.specs.Bytes.{byte_in, bytes_in, page_of_bo, standing, zeros, HasPart}
 
 -- ---- bytes of one page

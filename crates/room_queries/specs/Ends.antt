@@ -4,7 +4,7 @@ use Rattle.copy_engine.specs.Pushes.{Pushed}
 use Rattle.journal_model.specs.declared.script.Script.{Script}
 use Rattle.journal_model.specs.declared.state.Course.{Course}
 use Rattle.journal_model.specs.rules.Commands.{commands_of}
-use Rattle.room_representation.specs.room_steps.Courses.{course_in}
+use Rattle.room_representation.specs.steps.Courses.{course_in}
 
 -- the thread has answered all its commands
 abbrev pub answered_in : Script → List Course → ℕ → Bool

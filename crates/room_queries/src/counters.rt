@@ -38,7 +38,7 @@ pub fn next_job(parts: &Parts, script: &Script, before: &[Entry], ctx: u32) -> u
     requires known { ctx ≤ script.now.sizes.engines }
     ensures { result ≡ steps.next_job (state_of script.now before.now) ctx }
 {
-    parts.line.next(ctx)
+    parts.timeline.next(ctx)
 }
 
 /// Returns the number of the next ghost. Takes constant time.

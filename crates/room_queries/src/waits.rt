@@ -35,7 +35,7 @@ pub fn need(
     requires declared { b.0 < length script.now.buffers }
     ensures { result ≡ waited_for (state_of script.now before.now).core (jobs_before usage (buffer (state_of script.now before.now) b)) }
 {
-    parts.bos.get(b).resv.need(covering(usage), &parts.line)
+    parts.bos.get(b).resv.need(covering(usage), &parts.timeline)
 }
 
 /// Returns the job that a ghost waits for, by its place `at` in the order of making, or None where there is none. Takes time by contexts.
@@ -44,7 +44,7 @@ pub fn ghost_need(parts: &Parts, script: &Script, before: &[Entry], at: usize) -
     ensures { result ≡ option_and_then (λ g. waited_for (state_of script.now before.now).core g.jobs) (slice_get (state_of script.now before.now).core.ghosts at) }
 {
     if at < parts.ghosts.len() {
-        parts.ghosts.get(at).jobs.need(Usage::Read, &parts.line)
+        parts.ghosts.get(at).jobs.need(Usage::Read, &parts.timeline)
     } else {
         None
     }
@@ -70,5 +70,5 @@ pub fn head_need(parts: &Parts, script: &Script, before: &[Entry], ctx: u32) -> 
     if parts.rings.head(ctx).is_none() {
         return None;
     }
-    parts.rings.ready(ctx, &parts.line)
+    parts.rings.ready(ctx, &parts.timeline)
 }

@@ -1,7 +1,7 @@
-pub mod room_steps
-pub mod lemma_room_bytes
-pub mod lemma_room_spans
-pub mod lemma_room_lists
+pub mod steps
+pub mod lemma_bytes
+pub mod lemma_spans
+pub mod lemma_lists
 pub mod Fences
 pub mod Lines
 pub mod RingJobs

@@ -7,7 +7,7 @@ use Rattle.resource_core.specs.Vram as room
 use Rattle.journal_model.specs.declared.script.Sizes.{Sizes}
 use Rattle.journal_model.specs.declared.state.Buffer.{Buffer}
 use Rattle.journal_model.specs.declared.state.Ghost.{Ghost}
-use Rattle.room_representation.specs.lemma_room_spans.Owned.{HoldsAsOwned, kind_of}
+use Rattle.room_representation.specs.lemma_spans.Owned.{HoldsAsOwned, kind_of}
 use Rattle.room_representation.specs.MoveFences.{IsMoveFence}
 
 -- the manager of VRAM takes pages by the rule that the script names, has them held as in the state, and keeps the move fence

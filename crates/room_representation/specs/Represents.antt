@@ -5,7 +5,7 @@ use Rattle.journal_model.specs.declared.script.Script.{Script}
 use Rattle.journal_model.specs.declared.state.State.{State}
 use Rattle.journal_model.specs.rules.Holds.{held_frames, held_slots}
 use Rattle.journal_model.specs.rules.Places.{aperture}
-use Rattle.room_representation.specs.lemma_room_lists.Listed.{AreListed}
+use Rattle.room_representation.specs.lemma_lists.Listed.{AreListed}
 use Rattle.room_representation.specs.declared.parts.Parts.{Parts}
 use Rattle.room_representation.specs.Bos.{AreBos}
 use Rattle.room_representation.specs.Lines.{IsTimeline}
@@ -17,7 +17,7 @@ use Rattle.room_representation.specs.Pages.{ArePooled, AreSlots, AreStores, HasN
 -- one relation for each part; each takes what it needs of the state
 pub record Represents (script : Script) (s : State) (bytes : PageBytes) (p : Parts) : Type 0 where
   pub bos : AreBos script s.core.buffers s.reservations s.last_jobs p.bos
-  pub line : IsTimeline s.core.jobs s.last_jobs p.line
+  pub timeline : IsTimeline s.core.jobs s.last_jobs p.timeline
   pub rings : AreRings s.core.jobs s.last_jobs p.rings
   pub ghosts : AreGhosts s.core.jobs s.last_jobs s.core.ghosts p.ghosts
   pub vram : IsVram script.sizes s.last_jobs s.core.buffers s.core.ghosts s.core.move_fence p.vram

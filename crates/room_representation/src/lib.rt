@@ -1,11 +1,11 @@
 //! The parts of a memory manager, and how each of them tells the state and the bytes that a journal leads to: one relation for each part.
 #![tactic(auto)]
 
-pub mod lemma_room_bytes;
-pub mod lemma_room_jobs;
-pub mod lemma_room_lists;
-pub mod lemma_room_spans;
+pub mod lemma_bytes;
+pub mod lemma_jobs;
+pub mod lemma_lists;
+pub mod lemma_spans;
 mod parts;
-pub mod room_steps;
+pub mod steps;
 
 pub use parts::{Ghost, Ghosts, Parts};

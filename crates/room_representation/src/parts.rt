@@ -34,7 +34,7 @@ pub struct Parts {
     /// Buffers by declared number, with their reservations and the jobs that use them.
     pub bos: BoTable,
     /// The timeline: how far the jobs of each context are.
-    pub line: Timeline,
+    pub timeline: Timeline,
     /// The jobs that aren't done.
     pub rings: Rings,
     /// The ghosts, in order of making.
@@ -64,7 +64,7 @@ impl Drop for Parts {
     fn drop(self) {
         let Self {
             bos: _,
-            line: _,
+            timeline: _,
             rings: _,
             ghosts: _,
             vram: _,

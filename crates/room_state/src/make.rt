@@ -6,7 +6,7 @@ ghost use Rattle.room_representation.specs.Nexts.{Next};
 
 use crate::threads::make_of_thread;
 use journal_model::{Entry, Kind, Script};
-use room_pages::room_ghosts::reap;
+use room_pages::ghosts::reap;
 use room_parts::{done, packet};
 use room_representation::Parts;
 use std::alloc::Global;

@@ -15,9 +15,9 @@ ghost use Rattle.room_queries.specs.Uses.{jobs_before};
 ghost use Rattle.journal_model.specs.rules.Commands.{command_at_work as command_of};
 ghost use Rattle.journal_model.specs.scripts.ScriptRules.{is_script};
 ghost use Rattle.journal_model.specs.rules.Legal.{IsLegal};
-ghost use Rattle.room_representation.specs.lemma_room_lists.Listed.{HasLists};
+ghost use Rattle.room_representation.specs.lemma_lists.Listed.{HasLists};
 ghost use Rattle.room_representation.specs.Bos.{AreBos, unfenced};
-ghost use Rattle.room_representation.specs.room_steps.Lent.{as_buffer};
+ghost use Rattle.room_representation.specs.steps.Lent.{as_buffer};
 ghost use Rattle.room_representation.specs.Ghosts.{AreGhosts};
 ghost use Rattle.room_representation.specs.Held.{AreHeld};
 ghost use Rattle.room_representation.specs.Lines.{IsTimeline};
@@ -25,8 +25,8 @@ ghost use Rattle.room_representation.specs.RingJobs.{AreRings};
 ghost use Rattle.room_state.specs.Kept.{with_entry, state_behind, world_behind, MayAppend};
 ghost use Rattle.aperture_table.specs.Translation.{frame_at};
 
+use crate::beginning::first_parts;
 use crate::make::make_parts;
-use crate::room_first::first_parts;
 use aperture_table::Aperture;
 use bo_table::{Bo, BoTable};
 use copy_engine::Rings;
@@ -142,7 +142,7 @@ impl Rooms {
     pub fn line(&self) -> &Timeline
         ensures { IsTimeline (state_behind self.now).core.jobs (state_behind self.now).last_jobs result.now }
     {
-        &self.parts.line
+        &self.parts.timeline
     }
 
     /// Returns the rings, which keep the jobs that aren't done.
@@ -275,14 +275,14 @@ impl Rooms {
     pub fn task(&self, thread: u32) -> Task
         ensures { result ≡ task_of self.now.script (state_behind self.now) thread }
     {
-        crate::room_tasks::task_of(&self.parts, &self.script, self.journal.items(), thread)
+        crate::task_finding::task_of(&self.parts, &self.script, self.journal.items(), thread)
     }
 
     /// Returns the group of rules that gives the next entry of `thread`.
     pub fn stage(&self, thread: u32) -> Stage
         ensures { result ≡ stage_of (task_of self.now.script (state_behind self.now) thread) }
     {
-        crate::room_tasks::stage_of(self.task(thread))
+        crate::task_finding::stage_of(self.task(thread))
     }
 
     /// Returns the pages that `place` has for the declared buffer `b`, or None where it has none. Nothing is changed.

@@ -10,8 +10,8 @@ use crate::themes::{Theme, theme_of};
 use journal_model::{Entry, Kind, Script};
 use room_jobs::{answer, arm};
 use room_moves::move_buffer;
-use room_pages::room_binds::{bind, unbind};
-use room_pages::room_ghosts::free;
+use room_pages::binding::{bind, unbind};
+use room_pages::ghosts::free;
 use room_pages::{depopulate, swap_out};
 use room_parts::{
     back_off, bulk, catch, dry, loose, make, no_pages, populate, refuse, reserve, skip, swap_in,

@@ -11,8 +11,8 @@ use Rattle.journal_model.specs.declared.script.Script.{Script}
 use Rattle.journal_model.specs.declared.state.State.{State}
 use Rattle.journal_model.specs.rules.State.{changed, with_buffers}
 use Rattle.journal_model.specs.rules.ApplyPages.{after_bind, after_unbind, bound, unbound}
-use Rattle.rules_state.specs.rules_parts.Listing.{relisted}
-use Rattle.rules_state.proofs.rules_parts.ListingLaws.{touched-moved}
+use Rattle.rules_state.specs.parts.Listing.{relisted}
+use Rattle.rules_state.proofs.parts.ListingLaws.{touched-moved}
 
 -- a buffer that went to TT
 pub after_bind_is : (script : Script) (s : State) (b : BufId) → after_bind script s b ≡ record s { core = with_buffers (changed bound s.core.buffers b) s.core; lists = relisted script s.core.buffers s.reservations s.lists b Tt }

@@ -11,7 +11,7 @@ use Rattle.journal_model.specs.declared.entry.Entry.{Entry}
 use Rattle.journal_model.specs.declared.entry.Kind.{Kind}
 use Rattle.journal_model.specs.declared.entry.Kind.TheVariants as kind
 use Rattle.journal_model.specs.rules.State.{course_of, course, buffer}
-use Rattle.rules_state.specs.rules_parts.Pins.{HasPinsLeft}
+use Rattle.rules_state.specs.parts.Pins.{HasPinsLeft}
 use Rattle.journal_model.specs.rules.Commands.{command_at_work}
 use Rattle.journal_model.specs.rules.Apply.{thread_of, engine_of}
 pub use Rattle.journal_model.specs.code.Jobs.{has_packets_left}

@@ -3,7 +3,7 @@ ghost use Rattle.journal_model.specs.rules.State as words;
 ghost use Rattle.journal_model.specs.rules.ApplyCommands as rows;
 ghost use Rattle.journal_model.specs.rules.ApplyCommands.{after_new, after_free, after_bulk, after_result, named_in, released, with_pins};
 ghost use Rattle.journal_model.specs.rules.Lists.{touched};
-ghost use Rattle.rules_state.specs.rules_parts.Pins.{HasPinsLeft};
+ghost use Rattle.rules_state.specs.parts.Pins.{HasPinsLeft};
 ghost use Rattle.rules_apply.specs.Ready.{IsThread, CanShowResult};
 
 use crate::moves::ghost_of;
@@ -11,9 +11,9 @@ use journal_model::{
     BufIds, Buffer, Command, Core, Ghost, Lists, Reservation, Reservations, Script, State,
 };
 use rules_holds::unfinished_before_write;
-use rules_state::rules_parts::buffers::put_item;
-use rules_state::rules_parts::lists::{listed_in, members_last, taken_off, touched_all};
-use rules_state::rules_parts::reservations::{change_pins, release_all};
+use rules_state::parts::buffers::put_item;
+use rules_state::parts::lists::{listed_in, members_last, taken_off, touched_all};
+use rules_state::parts::reservations::{change_pins, release_all};
 use rules_state::{
     buffer_in, command_at_work, dead_buffer, declared_pages, frames_of, has_buffer, new_buffer,
     new_course, no_reservation, without_buffer,

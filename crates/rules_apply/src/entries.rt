@@ -5,7 +5,7 @@ ghost use Rattle.rules_apply.specs.Sure.{takes_no_memory};
 
 use crate::{commands, jobs, moves, pages, searches, tickets, victims};
 use journal_model::{Entry, Kind, Script, State};
-use rules_state::rules_parts::actors::{engine_of, thread_of};
+use rules_state::parts::actors::{engine_of, thread_of};
 use std::alloc::Global;
 use ttm_base::NoMemory;
 

@@ -5,7 +5,7 @@ ghost use Rattle.rules_apply.specs.Ready.{IsThread, CanRun};
 
 use journal_model::{Buffers, Core, Ghosts, Job, JobIds, Script, State};
 use rules_holds::{jobs_before_use, packets_of, use_of};
-use rules_state::rules_parts::buffers::{add_fence, drop_last_fence, put_item};
+use rules_state::parts::buffers::{add_fence, drop_last_fence, put_item};
 use rules_state::{command_at_work, ops_of};
 use state_words::named_in;
 use std::alloc::Global;
@@ -30,7 +30,7 @@ fn add_waits(
 
 /// Gives each of the buffers `bs` the job as a fence, in the way in which it uses the buffer. Without memory it leaves `buffers` as they
 /// were.
-#[tactic(auto, using(rules_state::proofs::rules_parts::UndoLaws::fence_undone))]
+#[tactic(auto, using(rules_state::proofs::parts::UndoLaws::fence_undone))]
 fn add_uses(buffers: &mut Buffers, job: JobId, ops: &[Op], bs: &[BufId]) -> Result<(), NoMemory>
     ensures ok { OnOk result (buffers.new ≡ fold (with_use job ops.now) buffers.old bs.now) }
     ensures err { OnErr result (buffers.new ≡ buffers.old) }

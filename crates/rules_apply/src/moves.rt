@@ -6,14 +6,14 @@ ghost use Rattle.journal_model.specs.rules.Holds as holds;
 ghost use Rattle.journal_model.specs.rules.ApplyMoves as rows;
 ghost use Rattle.ttm_base.specs.declared.Mem.TheVariants.{Tt, Vram};
 ghost use Rattle.rules_apply.specs.Ready.{HasShortTable};
-ghost use Rattle.rules_state.specs.rules_parts.Undo.{without_last};
+ghost use Rattle.rules_state.specs.parts.Undo.{without_last};
 
 use crate::pages::relisted_in;
 use journal_model::{
     Buffer, Core, Frames, Ghost, Ghosts, Job, JobIds, Left, Packets, Script, State,
 };
 use rules_holds::{spans_in, unfinished_before_write};
-use rules_state::rules_parts::buffers::{carry, put_item};
+use rules_state::parts::buffers::{carry, put_item};
 use rules_state::{buffer_in, dead_buffer, frames_of, name_in_spans, packet_place, target_spans};
 use state_words::copy_of_page;
 use std::alloc::Global;
@@ -101,7 +101,7 @@ fn ghost_of_moved(alloc: Global, buffer: &Buffer, id: JobId, num: u64) -> Result
 }
 
 /// Returns the ghost that a move leaves, or `None` if its pages are free at once.
-fn left_behind(
+fn kept_by_ghost(
     alloc: Global,
     buffer: &Buffer,
     id: JobId,
@@ -188,7 +188,7 @@ fn move_in_core(
     let dead = dead_buffer(alloc);
     let buffer = buffer_in(core, b, &dead);
     let job = move_job(alloc, core, buffer, mem, id)?;
-    let behind = left_behind(alloc, buffer, id, left)?;
+    let behind = kept_by_ghost(alloc, buffer, id, left)?;
     emit(alloc, core, b, mem, job, behind)?;
     if let Left::Now = left {
         core.move_fence = Some(id);

@@ -1,13 +1,13 @@
 ghost use Rattle.std.specs.Prelude.{◌≡◌, IfOk, OnOk, OnErr, option_to_list};
 ghost use Rattle.journal_model.specs.rules.Waits.{jobs_before_target};
-ghost use Rattle.rules_state.specs.rules_parts.Listing.{relisted};
+ghost use Rattle.rules_state.specs.parts.Listing.{relisted};
 ghost use Rattle.rules_apply.specs.Ready.{IsThread};
 ghost use Rattle.journal_model.specs.rules.ApplyPages.{after_take, after_bind, after_unbind, after_untake, after_populate, after_swap_in, after_swap_out, after_depopulate};
 
 use journal_model::{Core, Lists, Script, State};
 use rules_holds::is_unfinished;
-use rules_state::rules_parts::lists::relisted;
-use rules_state::rules_parts::{buffers, courses};
+use rules_state::parts::lists::relisted;
+use rules_state::parts::{buffers, courses};
 use std::alloc::Global;
 use ttm_base::{BufId, JobId, Loc, Mem, NoMemory, Spans};
 

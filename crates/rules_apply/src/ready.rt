@@ -1,10 +1,10 @@
 ghost use Rattle.std.specs.Prelude.{◌≡◌, ◌+◌, ◌<◌, ◌^◌, ◌↔◌, IsTrue, Some, option_copied, length};
 ghost use Rattle.journal_model.specs.rules.State as words;
 ghost use Rattle.rules_apply.specs.Ready as facts;
-ghost use Rattle.rules_state.specs.rules_parts.Pins.{CanPin, HasPinsLeft};
+ghost use Rattle.rules_state.specs.parts.Pins.{CanPin, HasPinsLeft};
 
 use journal_model::{Command, Entry, Kind, Reservation, Script, State};
-use rules_state::rules_parts::actors::{engine_of, thread_of};
+use rules_state::parts::actors::{engine_of, thread_of};
 use rules_state::{command_at_work, course_of, live_in, reservation_in};
 use ttm_base::limits::MAX_PINS;
 use ttm_base::{BufId, JobId};

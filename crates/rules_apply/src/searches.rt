@@ -5,7 +5,7 @@ ghost use Rattle.journal_model.specs.rules.ApplyVictims.{after_dry};
 ghost use Rattle.rules_apply.specs.Ready.{CanGoDry};
 
 use journal_model::{Command, Course, Script, State};
-use rules_state::rules_parts::courses::{fail_search, go_dry};
+use rules_state::parts::courses::{fail_search, go_dry};
 use rules_state::{command_at_work, forced_count, is_caught, place_search_at_work};
 use std::alloc::Global;
 use ttm_base::{BufId, Deny, NoMemory};

@@ -4,7 +4,7 @@ ghost use Rattle.rules_apply.specs.Ready.{IsThread, CanAnswer};
 
 use journal_model::{BufIds, State};
 use rules_state::new_course;
-use rules_state::rules_parts::reservations;
+use rules_state::parts::reservations;
 use std::alloc::Global;
 use ttm_base::{BufId, NoMemory, Stamp};
 

@@ -3,8 +3,8 @@ ghost use Rattle.journal_model.specs.rules.ApplyVictims.{after_no_pages, after_s
 ghost use Rattle.rules_apply.specs.Ready.{IsThread};
 
 use journal_model::{Script, State, Why};
-use rules_state::rules_parts::lists::touched;
-use rules_state::rules_parts::{buffers, courses, reservations};
+use rules_state::parts::lists::touched;
+use rules_state::parts::{buffers, courses, reservations};
 use std::alloc::Global;
 use ttm_base::{BufId, Deny, NoMemory};
 
@@ -52,7 +52,7 @@ pub fn catch(
 }
 
 /// Lets the victim `b` go. Without memory it leaves `state` as it was.
-#[tactic(auto, using(rules_state::proofs::rules_parts::ListingLaws::touched_released))]
+#[tactic(auto, using(rules_state::proofs::parts::ListingLaws::touched_released))]
 pub fn loose(
     alloc: Global,
     script: &Script,

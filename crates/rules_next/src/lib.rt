@@ -4,7 +4,7 @@
 
 mod actors;
 mod ready;
-pub mod rules_schedule;
 mod tasks;
+pub mod turns;
 
 pub use actors::{next, next_with};

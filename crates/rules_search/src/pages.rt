@@ -12,7 +12,7 @@ use crate::Step;
 use crate::dry::{ghost_with_frame, swap_victim};
 use journal_model::{Buffer, Core, Course, Kind, Left, Script, State, Why};
 use rules_holds::{FreeSets, free_frame, free_slot, waited_before_write};
-use rules_state::rules_parts::courses::why_caught;
+use rules_state::parts::courses::why_caught;
 use rules_state::{
     Standing, buffer_in, dead_buffer, filled_by, is_caught, is_frame, loc_of, target_to_untake,
     unless_waiting,

@@ -1,2 +1,2 @@
-pub mod rules_parts
+pub mod parts
 pub mod PlaceSearches

@@ -5,9 +5,9 @@
 mod buffers;
 mod commands;
 mod lists;
+pub mod parts;
 mod place_searches;
 mod places;
-pub mod rules_parts;
 
 pub use buffers::{
     buffer_in, course_of, dead_buffer, is_live, live_in, new_buffer, no_reservation,

@@ -1,4 +1,4 @@
-pub mod RoomLaws
+pub mod StoredLaws
 pub mod KeptLaws
 pub mod MapLaws
 pub mod PutLaws

@@ -3,18 +3,18 @@ use Rattle.std.specs.Prelude.{◌≡◌, ℕ, ◌*◌, Bool, false, List, length
 use Rattle.journal_model.specs.declared.script.Sizes.{Sizes}
 use Rattle.ttm_base.specs.Pages.{Page, nowhere, vram, frame, slot, PageBytes}
 use Rattle.journal_model.specs.rules.Stores.{is_there}
-use Rattle.rules_stores.specs.Room.{room_byte}
+use Rattle.rules_stores.specs.StoredPages.{stored_byte}
 
 -- the new bytes where there are pages; elsewhere the old ones
 abbrev pub within : Sizes → PageBytes → PageBytes → PageBytes
 within sizes bytes old = λ page o. if is_there sizes page && nat_lt o 4096 then bytes page o else old page o
 
 -- the bytes of three lists
-abbrev pub bytes_in : (vram_room frame_room slot_room : List ℕ) → PageBytes
+abbrev pub bytes_in : (vram_bytes frame_bytes slot_bytes : List ℕ) → PageBytes
 bytes_in v f s nowhere o = 0
-bytes_in v f s (vram p) o = room_byte v p o
-bytes_in v f s (frame p) o = room_byte f p o
-bytes_in v f s (slot p) o = room_byte s p o
+bytes_in v f s (vram p) o = stored_byte v p o
+bytes_in v f s (frame p) o = stored_byte f p o
+bytes_in v f s (slot p) o = stored_byte s p o
 
 -- the lists have the pages, frames and slots of the sizes
 pub record HasSizes (sizes : Sizes) (v f s : List ℕ) : Type 0 where

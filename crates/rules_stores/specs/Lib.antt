@@ -1,4 +1,4 @@
-pub mod Room
+pub mod StoredPages
 pub mod Kept
 pub mod StorePages
 pub mod Maps

@@ -14,7 +14,7 @@ use crate::parts::{PagePart, copy_part, put_bytes, xor_part};
 use crate::stores::PlainStores;
 use journal_model::{Command, Core, Entry, Kind, Script, State};
 use rules_state::command_at_work;
-use rules_state::rules_parts::actors::{engine_of, thread_of};
+use rules_state::parts::actors::{engine_of, thread_of};
 use ttm_base::limits::PAGE_BYTES;
 use ttm_base::{Actor, JobId, Packet, PagePlace};
 

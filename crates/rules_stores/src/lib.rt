@@ -2,9 +2,9 @@
 #![tactic(auto)]
 
 mod entries;
+mod page_store;
 mod pages;
 mod parts;
-mod room;
 mod shown;
 mod stores;
 

@@ -13,7 +13,7 @@ use crate::pages::StorePage;
 use crate::stores::PlainStores;
 use journal_model::{Bytes, Command, Core, Kind, Script, Shown, State};
 use rules_state::command_at_work;
-use rules_state::rules_parts::actors::{engine_of, thread_of};
+use rules_state::parts::actors::{engine_of, thread_of};
 use std::alloc::Global;
 use ttm_base::limits::PAGE_BYTES;
 use ttm_base::{Actor, BufId, JobId, NoMemory, Packet};

@@ -4,8 +4,8 @@ ghost use Rattle.journal_model.specs.rules.Stores.{zeros};
 ghost use Rattle.rules_stores.specs.StorePages.{page_of};
 ghost use Rattle.rules_stores.specs.Kept.{BecomesBytes, bytes_of};
 
+use crate::page_store::PageStore;
 use crate::pages::StorePage;
-use crate::room::Room;
 use journal_model::Sizes;
 use std::alloc::Global;
 use std::marker::Model;
@@ -14,9 +14,9 @@ use ttm_base::NoMemory;
 /// The bytes of VRAM, of frames and of swap slots, page after page. Nothing but `new` takes memory.
 pub struct PlainStores {
     sizes: Sizes,
-    vram: Room,
-    frames: Room,
-    slots: Room,
+    vram: PageStore,
+    frames: PageStore,
+    slots: PageStore,
 }
 
 /// By hand, so that no crate above proves how each part goes.
@@ -49,9 +49,9 @@ impl PlainStores {
     {
         Ok(PlainStores {
             sizes,
-            vram: Room::new(alloc, sizes.vram)?,
-            frames: Room::new(alloc, sizes.frames)?,
-            slots: Room::new(alloc, sizes.swap)?,
+            vram: PageStore::new(alloc, sizes.vram)?,
+            frames: PageStore::new(alloc, sizes.frames)?,
+            slots: PageStore::new(alloc, sizes.swap)?,
         })
     }
 

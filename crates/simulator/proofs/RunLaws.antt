@@ -99,7 +99,7 @@ found source P p (outcome.Ran k taken) h = absurd h
 found source P p (outcome.Judged f) h = p f h
 
 judged : (source sink : Edge) (s : Status) → EndsWith (ComesWell (Some form.Check) source) source sink s → EndsChecked source sink s
-judged source sink _ (told o (came, w) text) = found source (λ o. IsWritten sink (text_of o) → EndsChecked source sink (status_of o)) (λ f finds. checked.told f finds) o came text
+judged source sink _ (told o (came, w) text) = found source (λ o. IsWritten sink (text_of o) → EndsChecked source sink (status_of o)) (λ f finds. checked.whole f finds) o came text
 judged source sink _ (broken o (came, w) text) = found source (λ o. IsBroken sink (text_of o) → EndsChecked source sink status.WriteFault) (λ f finds. checked.broken f finds) o came text
 judged source sink _ (cut o (came, w) text) = found source (λ o. IsCut sink (text_of o) → EndsChecked source sink status.NoMemory) (λ f finds. checked.cut f finds) o came text
 judged source sink _ (nothing faultless same) = checked.nothing faultless same

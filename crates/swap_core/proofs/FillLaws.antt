@@ -17,8 +17,8 @@ use Rattle.journal_model.specs.rules.Places.{loc_of}
 use Rattle.journal_model.specs.rules.Search.{Step}
 use Rattle.room_representation.specs.declared.parts.Ghost.{Ghost}
 use Rattle.room_representation.specs.Ghosts.{AreGhosts}
-use Rattle.room_state.specs.room_turns.Acting.{made_unless}
-use Rattle.room_state.specs.room_turns.Turns.{step_by}
+use Rattle.room_state.specs.turns.Acting.{made_unless}
+use Rattle.room_state.specs.turns.Turns.{step_by}
 use Rattle.swap_core.specs.Due.{ghost_before_frame}
 
 -- ---- ghosts

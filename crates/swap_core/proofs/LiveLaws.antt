@@ -14,7 +14,7 @@ use Rattle.journal_model.specs.rules.State.{buffer, reservation_in, new_buffer, 
 use Rattle.journal_model.specs.rules.Legal.{state_of}
 use Rattle.room_queries.proofs.Known.{past_end}
 use Rattle.laws.proofs.law_sound.Along.{sound_law}
-use Rattle.room_representation.specs.room_steps.Lent.{as_buffer}
+use Rattle.room_representation.specs.steps.Lent.{as_buffer}
 use Rattle.room_representation.specs.declared.parts.Parts.{Parts}
 use Rattle.room_representation.specs.Bos.{unfenced}
 use Rattle.room_representation.specs.Held.{AreHeld}

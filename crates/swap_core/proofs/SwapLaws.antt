@@ -33,11 +33,11 @@ use Rattle.journal_model.specs.rules.Waits.{waited_for, jobs_before_write}
 use Rattle.laws.proofs.law_sound.Reservations.{live_within}
 use Rattle.laws.proofs.law_state.GoodStates.{good_law, table_pages}
 use Rattle.laws.proofs.law_state.Rules.{rules_of}
-use Rattle.room_state.specs.room_turns.Turns.{Kept, state_behind}
-use Rattle.room_state.specs.room_turns.Acting.{made_unless}
-use Rattle.room_state.specs.room_turns.Turns.{entry_by, entry_of, step_by}
-use Rattle.room_state.proofs.room_turns.Threads.{command_at, next_at}
-use Rattle.room_state.proofs.room_turns.Turned.{is_quiet_step, quiet_turn}
+use Rattle.room_state.specs.turns.Turns.{Kept, state_behind}
+use Rattle.room_state.specs.turns.Acting.{made_unless}
+use Rattle.room_state.specs.turns.Turns.{entry_by, entry_of, step_by}
+use Rattle.room_state.proofs.turns.Threads.{command_at, next_at}
+use Rattle.room_state.proofs.turns.Turned.{is_quiet_step, quiet_turn}
 use Rattle.swap_core.specs.Due.{can_swap, if_for_swap, if_swapout, job_before_swap, swapped, swapped_at, swap_out_due}
 
 -- ---- pages of a buffer

@@ -10,7 +10,7 @@ use Rattle.journal_model.specs.declared.state.State.{State}
 use Rattle.journal_model.specs.rules.State.{buffer, reservation}
 use Rattle.journal_model.specs.rules.Dry.{has_frame, is_loose, swap_victim}
 use Rattle.journal_model.specs.rules.Lists as state
-use Rattle.room_state.specs.room_turns.Rests.{in_order}
+use Rattle.room_state.specs.turns.Rests.{in_order}
 
 module _ {X : Type 0} (p : X → Bool) (xs ys : List X) where
   pub found_first : (o : Option X) → o ≡ find p xs → is_some o ≡ true → o ≡ find p (xs ++ ys)

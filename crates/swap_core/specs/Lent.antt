@@ -5,7 +5,7 @@ use Rattle.bo_table.specs.declared.bo.Bo.{Bo}
 use Rattle.bo_table.specs.Seen.{reservation_of}
 use Rattle.journal_model.specs.declared.state.State.{State}
 use Rattle.journal_model.specs.rules.State.{buffer, reservation, new_buffer}
-use Rattle.room_representation.specs.room_steps.Lent.{as_buffer}
+use Rattle.room_representation.specs.steps.Lent.{as_buffer}
 use Rattle.room_representation.specs.Bos.{unfenced}
 
 -- the buffer stands and is held as in the state

@@ -3,11 +3,11 @@ ghost use Rattle.ttm_base.specs.declared.Mem.TheVariants.{Vram};
 ghost use Rattle.ttm_base.specs.Reach.{same_mem};
 ghost use Rattle.journal_model.specs.rules.State.{buffer, reservation};
 ghost use Rattle.journal_model.specs.rules.Dry as words;
-ghost use Rattle.room_state.specs.room_turns.Turns.{state_behind};
+ghost use Rattle.room_state.specs.turns.Turns.{state_behind};
 ghost use Rattle.swap_core.specs.Lent.{IsLent};
 
 use bo_table::Bo;
-use room_state::room_turns::{Rooms, Walk};
+use room_state::turns::{Rooms, Walk};
 use state_words::is_loose;
 use ttm_base::{BufId, Mem};
 

@@ -8,15 +8,15 @@ ghost use Rattle.journal_model.specs.rules.Dry as dry;
 ghost use Rattle.journal_model.specs.rules.PageSteps as words;
 ghost use Rattle.journal_model.specs.rules.Places.{loc_of};
 ghost use Rattle.journal_model.specs.rules.Tasks.{stage_of, task_of};
-ghost use Rattle.room_state.specs.room_turns.Turns.{state_behind};
-ghost use Rattle.room_state.specs.room_turns.Acting.{made_unless};
-ghost use Rattle.room_state.specs.room_turns.Turns.{after_step, entry_of, step_of};
+ghost use Rattle.room_state.specs.turns.Turns.{state_behind};
+ghost use Rattle.room_state.specs.turns.Acting.{made_unless};
+ghost use Rattle.room_state.specs.turns.Turns.{after_step, entry_of, step_of};
 ghost use Rattle.swap_core.specs.Due.{ghost_before_frame};
 
 use crate::buffers::{live, swap_victim};
 use journal_model::{Kind, Task, Why};
 use room_representation::Ghost;
-use room_state::room_turns::{Rooms, Step, turn};
+use room_state::turns::{Rooms, Step, turn};
 use state_words::filled_by;
 use ttm_base::{Actor, BufId, Loc, Need, NoMemory};
 

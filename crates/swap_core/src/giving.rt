@@ -2,14 +2,14 @@ ghost use Rattle.std.specs.Prelude.{◌≡◌, true, IfOk, OnOk, OnErr};
 ghost use Rattle.ttm_base.specs.declared.Actor.TheVariants as actor;
 ghost use Rattle.journal_model.specs.declared.state.Task.TheVariants as task;
 ghost use Rattle.journal_model.specs.rules.Tasks.{task_of};
-ghost use Rattle.room_state.specs.room_turns.Turns.{state_behind};
-ghost use Rattle.room_state.specs.declared.room_turns.Step.TheVariants as answer;
-ghost use Rattle.room_state.specs.room_turns.Turns.{after_step, entry_of, step_of};
+ghost use Rattle.room_state.specs.turns.Turns.{state_behind};
+ghost use Rattle.room_state.specs.declared.turns.Step.TheVariants as answer;
+ghost use Rattle.room_state.specs.turns.Turns.{after_step, entry_of, step_of};
 ghost use Rattle.swap_core.specs.Due.{depopulate_due};
 
 use crate::buffers::has_frame_in_vram;
 use journal_model::{Kind, Task};
-use room_state::room_turns::{Rooms, Step, make};
+use room_state::turns::{Rooms, Step, make};
 use ttm_base::{Actor, BufId, NoMemory};
 
 /// Returns whether a Depopulate of `thread` is due: a buffer that gives back what its search took stands in VRAM and has a frame. Takes time as

@@ -6,15 +6,15 @@ ghost use Rattle.journal_model.specs.declared.state.Task.TheVariants as task;
 ghost use Rattle.journal_model.specs.rules.State.{buffer};
 ghost use Rattle.journal_model.specs.rules.PageSteps as words;
 ghost use Rattle.journal_model.specs.rules.Tasks.{task_of};
-ghost use Rattle.room_state.specs.room_turns.Turns.{state_behind};
-ghost use Rattle.room_state.specs.room_turns.Acting.{made_unless};
-ghost use Rattle.room_state.specs.room_turns.Turns.{after_step, entry_of, step_of};
+ghost use Rattle.room_state.specs.turns.Turns.{state_behind};
+ghost use Rattle.room_state.specs.turns.Acting.{made_unless};
+ghost use Rattle.room_state.specs.turns.Turns.{after_step, entry_of, step_of};
 ghost use Rattle.swap_core.specs.Due as due;
 ghost use Rattle.swap_core.specs.Due.{job_before_swap, swapped, swap_out_due};
 
 use crate::buffers::{has_frame, live};
 use journal_model::{Command, Course, Kind, Task, Why};
-use room_state::room_turns::{Rooms, Step, turn};
+use room_state::turns::{Rooms, Step, turn};
 use state_words::courses::why_caught;
 use ttm_base::{Actor, BufId, Need, NoMemory, Usage};
 

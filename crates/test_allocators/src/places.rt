@@ -2,7 +2,8 @@ ghost use Rattle.std.specs.Prelude.{◌≡◌};
 
 use crate::wanted::ensure;
 use place_list::{
-    PageCursor, compatible, first_at, first_count, forced_at, forced_count, intersects, reach,
+    PageCursor, PlacedSpans, compatible, first_at, first_count, forced_at, forced_count,
+    intersects, reach,
 };
 use std::alloc::Global;
 use std::process::Abort;
@@ -104,6 +105,8 @@ fn assert_fit(rt: &impl Abort, alloc: Global, spans: &Spans, row: &(Mem, Place, 
     };
     let placement = placement(rt, alloc, &[unflagged]);
     ensure(rt, compatible(row.0, spans, &placement, 8) == row.2);
+    let kept = PlacedSpans::of(spans.copy().expect(rt, "spans"));
+    ensure(rt, kept.is_accepted(row.0, &[unflagged], 8) == row.2);
 }
 
 #[test]

@@ -1,6 +1,6 @@
 use crate::making::{core_of, ensure, job_of, script_of, state_of};
 use journal_model::{Buffers, Courses, Ghosts, Jobs, Script, State};
-use rules_next::rules_schedule::{is_over, next_actor};
+use rules_next::turns::{is_over, next_actor};
 use rules_search::has_room;
 use rules_state::new_course;
 use std::alloc::Global;

@@ -7,9 +7,9 @@ use Rattle.journal_model.specs.rules.Legal.{IsLegal}
 use Rattle.journal_model.specs.scripts.ScriptRules.{is_script}
 use Rattle.journal_model.specs.rules.Tasks.{task_of}
 use Rattle.laws.proofs.law_state.Rules.{at_work_rules, rules_of}
-use Rattle.room_state.specs.room_turns.Turns.{Kept, state_behind}
-use Rattle.room_state.specs.room_turns.Acting.{command_due, command_in, free_due, frees, swap_due, swaps}
-use Rattle.room_state.proofs.room_turns.Works.{acted_has, has_declared, has_live}
+use Rattle.room_state.specs.turns.Turns.{Kept, state_behind}
+use Rattle.room_state.specs.turns.Acting.{command_due, command_in, free_due, frees, swap_due, swaps}
+use Rattle.room_state.proofs.turns.Works.{acted_has, has_declared, has_live}
 use Rattle.validate_list.specs.Acts.{IsActing}
 
 module _ (k : Kept) (t : ℕ) (cmd : Command) (at : command_at_work k.script (state_behind k) t ≡ Some cmd) (is : task_of k.script (state_behind k) t ≡ task.Act) where

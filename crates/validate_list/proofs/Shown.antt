@@ -30,10 +30,10 @@ use Rattle.journal_model.specs.rules.Legal.{World, shown_step}
 use Rattle.journal_model.specs.rules.Stores.{bytes_of, shown_by_read}
 use Rattle.journal_model.specs.rules.Tasks.{stage_of, task_of}
 use Rattle.journal_model.specs.rules.Waits.{waited_for, jobs_before_read, jobs_before_write}
-use Rattle.room_state.specs.room_turns.Turns.{Kept, state_behind, world_behind}
-use Rattle.room_state.specs.room_turns.Acting.{entry_by, swaps}
-use Rattle.room_state.specs.room_turns.Turns.{entry_of}
-use Rattle.room_state.proofs.room_turns.Threads.{command_at, next_at}
+use Rattle.room_state.specs.turns.Turns.{Kept, state_behind, world_behind}
+use Rattle.room_state.specs.turns.Acting.{entry_by, swaps}
+use Rattle.room_state.specs.turns.Turns.{entry_of}
+use Rattle.room_state.proofs.turns.Threads.{command_at, next_at}
 use Rattle.validate_list.specs.Acts.{act_of, denied, is_read}
 
 -- the answer shows no bytes

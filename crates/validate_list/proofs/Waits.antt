@@ -29,12 +29,12 @@ use Rattle.journal_model.specs.rules.Search.{Step}
 use Rattle.journal_model.specs.rules.Stores.{bytes_of}
 use Rattle.journal_model.specs.rules.Tasks.{task_of, stage_of}
 use Rattle.journal_model.specs.rules.Waits.{waited_for, jobs_before_read, jobs_before_write}
-use Rattle.room_state.specs.room_turns.Turns.{Kept, state_behind, world_behind}
-use Rattle.room_state.specs.declared.room_turns.Step as answers
-use Rattle.room_state.specs.room_turns.Acting.{command_due, command_in, entry_by, holder_awaited, holder_before, holder_in, job_awaited, job_before, made_unless, swap_due, swaps}
-use Rattle.room_state.specs.room_turns.Turns.{entry_of, step_of}
-use Rattle.room_state.proofs.room_turns.Threads.{command_at}
-use Rattle.room_state.proofs.room_turns.Works.{lock_other}
+use Rattle.room_state.specs.turns.Turns.{Kept, state_behind, world_behind}
+use Rattle.room_state.specs.declared.turns.Step as answers
+use Rattle.room_state.specs.turns.Acting.{command_due, command_in, entry_by, holder_awaited, holder_before, holder_in, job_awaited, job_before, made_unless, swap_due, swaps}
+use Rattle.room_state.specs.turns.Turns.{entry_of, step_of}
+use Rattle.room_state.proofs.turns.Threads.{command_at}
+use Rattle.room_state.proofs.turns.Works.{lock_other}
 use Rattle.validate_list.specs.Acts.{act_of}
 use Rattle.validate_list.proofs.Acting.{due_is}
 use Rattle.validate_list.proofs.Shown.{act_entry, bare_entry, is_bare_step, swap_over}

@@ -18,8 +18,8 @@ use Rattle.journal_model.specs.rules.PageSteps.{unless_waiting}
 use Rattle.journal_model.specs.rules.Stores.{bytes_of}
 use Rattle.journal_model.specs.rules.Waits.{waited_for, jobs_before_read}
 use Rattle.laws.specs.lemma_bytes_told.Told.{IsThere}
-use Rattle.room_state.specs.room_turns.Turns.{Kept, state_behind, world_behind}
-use Rattle.room_state.specs.room_turns.Acting.{frees, swaps}
+use Rattle.room_state.specs.turns.Turns.{Kept, state_behind, world_behind}
+use Rattle.room_state.specs.turns.Acting.{frees, swaps}
 
 -- the command shows bytes of a buffer
 abbrev pub is_read : Command → Bool

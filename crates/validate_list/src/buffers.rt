@@ -1,8 +1,8 @@
 ghost use Rattle.std.specs.Prelude.{◌≡◌};
 ghost use Rattle.journal_model.specs.rules.State as state;
-ghost use Rattle.room_state.specs.room_turns.Turns.{state_behind};
+ghost use Rattle.room_state.specs.turns.Turns.{state_behind};
 
-use room_state::room_turns::Rooms;
+use room_state::turns::Rooms;
 use ttm_base::{BufId, Stamp};
 
 /// Returns whether buffer `b` is live.

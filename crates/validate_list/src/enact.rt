@@ -1,10 +1,10 @@
 ghost use Rattle.std.specs.Prelude.{◌≡◌, IfOk, OnOk, OnErr};
 ghost use Rattle.ttm_base.specs.declared.Actor.TheVariants as actor;
-ghost use Rattle.room_state.specs.room_turns.Acting.{entry_by};
-ghost use Rattle.room_state.specs.room_turns.Turns.{after_step, entry_of, step_of};
+ghost use Rattle.room_state.specs.turns.Acting.{entry_by};
+ghost use Rattle.room_state.specs.turns.Turns.{after_step, entry_of, step_of};
 
 use journal_model::Kind;
-use room_state::room_turns::{Rooms, Step, make};
+use room_state::turns::{Rooms, Step, make};
 use ttm_base::{Actor, Need, NoMemory};
 
 /// The next entry of a thread, or what it needs first.

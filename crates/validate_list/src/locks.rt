@@ -6,14 +6,14 @@ ghost use Rattle.journal_model.specs.declared.state.Task.TheVariants as task;
 ghost use Rattle.journal_model.specs.rules.State.{course};
 ghost use Rattle.journal_model.specs.rules.Next as words;
 ghost use Rattle.journal_model.specs.rules.Tasks.{task_of, stage_of};
-ghost use Rattle.room_state.specs.room_turns.Turns.{state_behind};
-ghost use Rattle.room_state.specs.room_turns.Acting.{holder_awaited, made_unless};
-ghost use Rattle.room_state.specs.room_turns.Turns.{after_step, entry_of, step_of};
+ghost use Rattle.room_state.specs.turns.Turns.{state_behind};
+ghost use Rattle.room_state.specs.turns.Acting.{holder_awaited, made_unless};
+ghost use Rattle.room_state.specs.turns.Turns.{after_step, entry_of, step_of};
 
 use crate::buffers::{holder_of, is_live};
 use crate::enact::{Next, enact};
 use journal_model::{Course, Kind, Task};
-use room_state::room_turns::{Rooms, Step};
+use room_state::turns::{Rooms, Step};
 use ttm_base::{BufId, Deny, Need, NoMemory, Stamp};
 use ww_ticket::{Decision, decide};
 

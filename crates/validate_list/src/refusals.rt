@@ -1,14 +1,14 @@
 ghost use Rattle.std.specs.Prelude.{◌≡◌, true, Some, IfOk, OnOk, OnErr};
 ghost use Rattle.ttm_base.specs.declared.Actor.TheVariants as actor;
 ghost use Rattle.journal_model.specs.rules.Tasks.{task_of};
-ghost use Rattle.room_state.specs.room_turns.Turns.{state_behind};
-ghost use Rattle.room_state.specs.declared.room_turns.Step.TheVariants as answer;
-ghost use Rattle.room_state.specs.room_turns.Acting.{gives_up};
-ghost use Rattle.room_state.specs.room_turns.Turns.{after_step, entry_of, step_of};
+ghost use Rattle.room_state.specs.turns.Turns.{state_behind};
+ghost use Rattle.room_state.specs.declared.turns.Step.TheVariants as answer;
+ghost use Rattle.room_state.specs.turns.Acting.{gives_up};
+ghost use Rattle.room_state.specs.turns.Turns.{after_step, entry_of, step_of};
 ghost use Rattle.validate_list.specs.Acts.{denied};
 
 use journal_model::{Kind, Task};
-use room_state::room_turns::{Rooms, Step, make};
+use room_state::turns::{Rooms, Step, make};
 use ttm_base::{Actor, Deny, NoMemory};
 
 /// Refuses the command of `thread` for the reason `deny`, which is its task: what it asks may not be done, or a search found no pages and has nothing

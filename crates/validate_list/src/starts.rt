@@ -3,13 +3,13 @@ ghost use Rattle.ttm_base.specs.declared.Actor.TheVariants as actor;
 ghost use Rattle.journal_model.specs.declared.state.Stage.TheVariants as stage;
 ghost use Rattle.journal_model.specs.rules.Next as words;
 ghost use Rattle.journal_model.specs.rules.Tasks.{task_of, stage_of};
-ghost use Rattle.room_state.specs.room_turns.Turns.{state_behind};
-ghost use Rattle.room_state.specs.declared.room_turns.Step.TheVariants as answer;
-ghost use Rattle.room_state.specs.room_turns.Turns.{after_step, entry_of, step_of};
+ghost use Rattle.room_state.specs.turns.Turns.{state_behind};
+ghost use Rattle.room_state.specs.declared.turns.Step.TheVariants as answer;
+ghost use Rattle.room_state.specs.turns.Turns.{after_step, entry_of, step_of};
 
 use crate::buffers::is_live;
 use journal_model::{Command, Kind};
-use room_state::room_turns::{Rooms, Step, make};
+use room_state::turns::{Rooms, Step, make};
 use ttm_base::{Actor, Deny, NoMemory};
 
 /// Returns the first step of `command`.

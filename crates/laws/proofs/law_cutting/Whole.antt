@@ -8,7 +8,7 @@ use Rattle.ttm_base.specs.declared.BufId.{BufId}
 use Rattle.ttm_base.specs.declared.Op.{Op}
 use Rattle.ttm_base.specs.declared.Op.TheVariants as op
 use Rattle.ttm_base.specs.ListWords.{count_from}
-use Rattle.ttm_base.specs.Cutting.{to_border, room, op_len, pieces_from, pieces_of}
+use Rattle.ttm_base.specs.Cutting.{to_border, until_border, op_len, pieces_from, pieces_of}
 use Rattle.journal_model.specs.declared.script.Script.{Script}
 use Rattle.journal_model.specs.rules.PlainMemory.{Memory, after_op, after_ops, memory_range, piece_shown}
 use Rattle.journal_model.specs.scripts.CommandRules.{is_op}
@@ -81,21 +81,21 @@ after_more (op.Probe src off len) m at n a = refl
 border_is_near : (off : ℕ) → 0 < to_border off
 border_is_near off = omega arith
 
-pub room_is_some : (o : Op) (at : ℕ) → 0 < room o at
+pub room_is_some : (o : Op) (at : ℕ) → 0 < until_border o at
 room_is_some (op.Fill dst off len byte) at = border_is_near (off + at)
 room_is_some (op.Copy dst doff src soff len) at = let a = border_is_near (doff + at) in let b = border_is_near (soff + at) in omega (arith, a, b)
 room_is_some (op.Xor dst doff src soff len) at = let a = border_is_near (doff + at) in let b = border_is_near (soff + at) in omega (arith, a, b)
 room_is_some (op.Probe src off len) at = border_is_near (off + at)
 
-from_here : (o : Op) (m : Memory) (at len fuel : ℕ) → IsApart o → len ≤ fuel → after_ops (after_op m (shortened at o)) (map (part_of o) (pieces_from (room o) at len fuel)) ≡ after_op m (shortened (at + len) o)
+from_here : (o : Op) (m : Memory) (at len fuel : ℕ) → IsApart o → len ≤ fuel → after_ops (after_op m (shortened at o)) (map (part_of o) (pieces_from (until_border o) at len fuel)) ≡ after_op m (shortened (at + len) o)
 from_here o m at zero fuel a enough = ap (λ n. after_op m (shortened n o)) (let z : at ≡ at + 0 = omega arith in z)
 from_here o m at (suc len) zero a enough = absurd (omega (arith, enough))
 from_here o m at (suc len) (suc fuel) a enough =
-    let n : ℕ = min (suc len) (room o at) in
+    let n : ℕ = min (suc len) (until_border o at) in
     let some = room_is_some o at in
-    ap (λ q. after_ops q (map (part_of o) (pieces_from (room o) (at + n) (suc len - n) fuel))) (after_more o m at n a)
+    ap (λ q. after_ops q (map (part_of o) (pieces_from (until_border o) (at + n) (suc len - n) fuel))) (after_more o m at n a)
     ∙ from_here o m (at + n) (suc len - n) fuel a (omega (arith, enough, some))
-    ∙ ap (λ k. after_op m (shortened k o)) (let z : (at + min (suc len) (room o at)) + (suc len - min (suc len) (room o at)) ≡ at + suc len = omega arith in z)
+    ∙ ap (λ k. after_op m (shortened k o)) (let z : (at + min (suc len) (until_border o at)) + (suc len - min (suc len) (until_border o at)) ≡ at + suc len = omega arith in z)
 
 shortened_whole : (o : Op) → shortened (op_len o) o ≡ o
 shortened_whole (op.Fill dst off len byte) = refl
@@ -123,17 +123,17 @@ abbrev pub Each : {X : Type 0} → (X → Type 0) → List X → Type 0
 Each P [] = Unit {0}
 Each P (x ∷ xs) = P x × Each P xs
 
-in_pages : (o : Op) (at n : ℕ) → n ≤ room o at → IsOfPages (part_of o (record { at = at; len = n }))
+in_pages : (o : Op) (at n : ℕ) → n ≤ until_border o at → IsOfPages (part_of o (record { at = at; len = n }))
 in_pages (op.Fill dst off len byte) at n h = omega (arith, h)
 in_pages (op.Copy dst doff src soff len) at n h = (omega (arith, h), omega (arith, h))
 in_pages (op.Xor dst doff src soff len) at n h = (omega (arith, h), omega (arith, h))
 in_pages (op.Probe src off len) at n h = omega (arith, h)
 
-from_here_pieces : (o : Op) (at len fuel : ℕ) → at + len ≤ op_len o → Each (IsPiece o) (pieces_from (room o) at len fuel)
+from_here_pieces : (o : Op) (at len fuel : ℕ) → at + len ≤ op_len o → Each (IsPiece o) (pieces_from (until_border o) at len fuel)
 from_here_pieces o at zero fuel h = tt
 from_here_pieces o at (suc len) zero h = tt
 from_here_pieces o at (suc len) (suc fuel) h =
-    let n : ℕ = min (suc len) (room o at) in
+    let n : ℕ = min (suc len) (until_border o at) in
     let some = room_is_some o at in (
       record { some = omega (arith, some); inside = omega (arith, h); pages = in_pages o at n (omega arith) },
       from_here_pieces o (at + n) (suc len - n) fuel (omega (arith, h)),
@@ -155,13 +155,13 @@ map-append f [] ys = refl
 map-append f (x ∷ xs) ys = ap (λ rest. f x ∷ rest) (map-append f xs ys)
 
 shown_from_here : (m : Memory) (src : BufId) (off len at left fuel : ℕ) → left ≤ fuel →
-    flat_map (piece_shown m (op.Probe src off len)) (pieces_from (room (op.Probe src off len)) at left fuel) ≡ memory_range m src (off + at) left
+    flat_map (piece_shown m (op.Probe src off len)) (pieces_from (until_border (op.Probe src off len)) at left fuel) ≡ memory_range m src (off + at) left
 shown_from_here m src off len at zero fuel enough = refl
 shown_from_here m src off len at (suc left) zero enough = absurd (omega (arith, enough))
 shown_from_here m src off len at (suc left) (suc fuel) enough =
-    let n : ℕ = min (suc left) (room (op.Probe src off len) at) in
+    let n : ℕ = min (suc left) (until_border (op.Probe src off len) at) in
     let some = room_is_some (op.Probe src off len) at in
-    ap (λ rest. memory_range m src (off + at) (min (suc left) (room (op.Probe src off len) at)) ++ rest)
+    ap (λ rest. memory_range m src (off + at) (min (suc left) (until_border (op.Probe src off len) at)) ++ rest)
     (shown_from_here m src off len (at + n) (suc left - n) fuel (omega (arith, enough, some))
     ∙ ap (λ k. memory_range m src k (suc left - n)) (let z : off + (at + min (suc left) (to_border (off + at))) ≡ (off + at) + min (suc left) (to_border (off + at)) = omega arith in z))
     ∙ sym (ap (map (m src.0)) (count-split n (suc left - n) (off + at)) ∙ map-append (m src.0) (count_from 1 n (off + at)) (count_from 1 (suc left - n) ((off + at) + n)))

@@ -6,7 +6,7 @@ use Rattle.std.proofs.lemmas.Bool.Decides.{nat_tests}
 use Rattle.std.proofs.lemmas.List.Sums.{sum_by-cons}
 use Rattle.ttm_base.specs.declared.Op.{Op}
 use Rattle.ttm_base.specs.declared.Op.TheVariants as op
-use Rattle.ttm_base.specs.Cutting.{PageMap, pieces_from, pieces_of, packet_of, packets_of, room, op_len}
+use Rattle.ttm_base.specs.Cutting.{PageMap, pieces_from, pieces_of, packet_of, packets_of, until_border, op_len}
 use Rattle.journal_model.specs.declared.script.Script.{Script}
 use Rattle.journal_model.specs.scripts.CommandRules.{is_op}
 
@@ -36,7 +36,7 @@ pub few_packets : (pages : PageMap) (ops : List Op) → length (packets_of pages
 few_packets pages [] = omega arith
 few_packets pages (o ∷ ops) =
     let rest = few_packets pages ops in
-    let here = few_pieces (room o) 0 (op_len o) (op_len o) in
+    let here = few_pieces (until_border o) 0 (op_len o) (op_len o) in
     let one = length-map (packet_of pages o) (pieces_of o) in
     let both = length-app (map (packet_of pages o) (pieces_of o)) (packets_of pages ops) in
     let sum = sum_by-cons op_len o ops in
@@ -45,7 +45,7 @@ few_packets pages (o ∷ ops) =
 -- and one at least, where the first operation has a byte
 pub some_packets : (pages : PageMap) (o : Op) (ops : List Op) → 0 < op_len o → 0 < length (packets_of pages (o ∷ ops))
 some_packets pages o ops h =
-    let here = some_pieces (room o) 0 (op_len o) h in
+    let here = some_pieces (until_border o) 0 (op_len o) h in
     let one = length-map (packet_of pages o) (pieces_of o) in
     let both = length-app (map (packet_of pages o) (pieces_of o)) (packets_of pages ops) in
     omega (arith, here, one, both)

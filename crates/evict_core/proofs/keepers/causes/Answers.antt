@@ -6,7 +6,7 @@ use Rattle.journal_model.specs.declared.script.Script.{Script}
 use Rattle.journal_model.specs.rules.Dry.{cause_row}
 use Rattle.laws.proofs.law_state.GoodStates.{good_law}
 use Rattle.laws.proofs.law_sound.Along.{sound_law}
-use Rattle.room_state.specs.room_turns.Turns.{state_behind}
+use Rattle.room_state.specs.turns.Turns.{state_behind}
 use Rattle.evict_core.specs.Rows.{row_in}
 use Rattle.evict_core.proofs.Rows.{few_buffers, row_more, row_same, rows_all}
 use Rattle.evict_core.proofs.keepers.causes.Goals as goal

@@ -1,5 +1,5 @@
 use Rattle.std.proofs.Common.{◌≡◌}
-use Rattle.room_state.specs.room_turns.Turns.{state_behind}
+use Rattle.room_state.specs.turns.Turns.{state_behind}
 use Rattle.evict_core.proofs.Rows.{rows_up_to}
 use Rattle.evict_core.proofs.keepers.causes.Given as goal
 

@@ -2,7 +2,7 @@ use Rattle.std.proofs.Common.{◌≡◌, ◌∙◌, ap}
 use Rattle.std.specs.Prelude.{option_map}
 use Rattle.journal_model.specs.declared.script.Script.{Script}
 use Rattle.journal_model.specs.rules.Choice.{reach_of}
-use Rattle.room_state.specs.room_turns.Turns.{state_behind}
+use Rattle.room_state.specs.turns.Turns.{state_behind}
 use Rattle.room_representation.specs.declared.parts.Ghost.{Ghost}
 use Rattle.evict_core.specs.Rows.{ghost_in}
 use Rattle.evict_core.proofs.Rows.{ghost_same}

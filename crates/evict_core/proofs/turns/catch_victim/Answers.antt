@@ -1,8 +1,8 @@
 use Rattle.std.proofs.Common.{◌∙◌, ap}
 use Rattle.journal_model.specs.declared.script.Script.{Script}
-use Rattle.room_state.specs.room_turns.Searching.{place_at_work}
-use Rattle.room_state.specs.room_turns.Turns.{step_of}
-use Rattle.room_state.specs.room_turns.BufferSearches.{place_search_of, seen}
+use Rattle.room_state.specs.turns.Searching.{place_at_work}
+use Rattle.room_state.specs.turns.Turns.{step_of}
+use Rattle.room_state.specs.turns.BufferSearches.{place_search_of, seen}
 use Rattle.evict_core.proofs.Entries.{entry_catches}
 use Rattle.evict_core.proofs.turns.catch_victim.Goals as goal
 

@@ -1,9 +1,9 @@
 use Rattle.std.proofs.Common.{◌≡◌, false, true, sym, ◌∙◌, ap}
 use Rattle.journal_model.specs.declared.script.Script.{Script}
 use Rattle.journal_model.specs.rules.Dry.{is_long_enough}
-use Rattle.room_state.specs.room_turns.Searching.{place_at_work}
-use Rattle.room_state.specs.room_turns.Turns.{after_step, step_of}
-use Rattle.room_state.specs.room_turns.BufferSearches.{place_search_of, seen}
+use Rattle.room_state.specs.turns.Searching.{place_at_work}
+use Rattle.room_state.specs.turns.Turns.{after_step, step_of}
+use Rattle.room_state.specs.turns.BufferSearches.{place_search_of, seen}
 use Rattle.evict_core.proofs.Entries.{entry_dry, entry_short, entry_waits}
 use Rattle.evict_core.proofs.turns.note_dry.Goals as goal
 

@@ -1,8 +1,8 @@
 use Rattle.std.proofs.Common.{sym, ◌∙◌, ap}
 use Rattle.std.specs.Prelude.{find}
 use Rattle.journal_model.specs.rules.Dry.{is_evictable}
-use Rattle.room_state.specs.room_turns.Turns.{state_behind}
-use Rattle.room_state.proofs.room_turns.WalkLaws.{find_here, find_past}
+use Rattle.room_state.specs.turns.Turns.{state_behind}
+use Rattle.room_state.proofs.turns.WalkLaws.{find_here, find_past}
 use Rattle.evict_core.proofs.victims.first_evictable.Goals as goal
 
 pub returns-then-is_evictable : goal.returns-then-is_evictable

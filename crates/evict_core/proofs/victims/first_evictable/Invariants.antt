@@ -1,7 +1,7 @@
 use Rattle.std.proofs.Common.{◌≡◌}
 use Rattle.std.specs.Prelude.{find}
 use Rattle.journal_model.specs.rules.Dry.{is_evictable}
-use Rattle.room_state.specs.room_turns.Turns.{state_behind}
+use Rattle.room_state.specs.turns.Turns.{state_behind}
 use Rattle.evict_core.proofs.victims.first_evictable.Given as goal
 
 -- the first of what is left is the first of all

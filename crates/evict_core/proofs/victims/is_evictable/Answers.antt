@@ -5,7 +5,7 @@ use Rattle.journal_model.specs.declared.script.Script.{Script}
 use Rattle.journal_model.specs.rules.Choice.{reach_of}
 use Rattle.journal_model.specs.rules.Dry.{is_loose}
 use Rattle.bo_table.specs.Seen.{reservation_of}
-use Rattle.room_state.specs.room_turns.Turns.{state_behind}
+use Rattle.room_state.specs.turns.Turns.{state_behind}
 use Rattle.evict_core.specs.Walks.{stands_in}
 use Rattle.evict_core.proofs.Lent.{not_there, lent_is}
 use Rattle.evict_core.proofs.victims.is_evictable.Goals as goal

@@ -1,8 +1,8 @@
 use Rattle.std.proofs.Common.{◌∙◌, ap}
 use Rattle.std.specs.Prelude.{find}
 use Rattle.journal_model.specs.rules.Dry.{is_evictable}
-use Rattle.room_state.specs.room_turns.Rests.{in_order}
-use Rattle.room_state.specs.room_turns.Turns.{state_behind}
+use Rattle.room_state.specs.turns.Rests.{in_order}
+use Rattle.room_state.specs.turns.Turns.{state_behind}
 use Rattle.evict_core.proofs.victims.victim.Goals as goal
 
 pub returns : goal.returns

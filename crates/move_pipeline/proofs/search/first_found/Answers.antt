@@ -1,7 +1,7 @@
 use Rattle.std.proofs.Common.{◌≡◌, Some, None, slice_get, ◌∙◌, sym, ap}
 use Rattle.journal_model.specs.declared.script.Script.{Script}
-use Rattle.room_state.specs.room_turns.Turns.{Kept, state_behind}
-use Rattle.room_state.specs.room_turns.BufferSearches.{list_of}
+use Rattle.room_state.specs.turns.Turns.{Kept, state_behind}
+use Rattle.room_state.specs.turns.BufferSearches.{list_of}
 use Rattle.move_pipeline.specs.Finds.{tried_at}
 use Rattle.move_pipeline.proofs.Founds.{having, lacking}
 use Rattle.move_pipeline.proofs.search.first_found.Goals as goal

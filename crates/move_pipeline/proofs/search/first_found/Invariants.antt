@@ -1,8 +1,8 @@
 use Rattle.std.proofs.Common.{◌≡◌, drop}
 use Rattle.ttm_base.specs.Placement.{first_places}
 use Rattle.journal_model.specs.rules.Search.{first_choice}
-use Rattle.room_state.specs.room_turns.Turns.{state_behind}
-use Rattle.room_state.specs.room_turns.BufferSearches.{list_of}
+use Rattle.room_state.specs.turns.Turns.{state_behind}
+use Rattle.room_state.specs.turns.BufferSearches.{list_of}
 use Rattle.move_pipeline.proofs.search.first_found.Given as goal
 
 -- the places before have no choice, and the rooms are as they were

@@ -1,9 +1,9 @@
 use Rattle.std.proofs.Common.{◌≡◌, Some, Ok, sym, ◌∙◌, ap, subst}
 use Rattle.ttm_base.specs.declared.Actor.TheVariants as actor
 use Rattle.journal_model.specs.declared.entry.Kind.TheVariants as kind
-use Rattle.room_state.specs.room_turns.Turns.{Kept, state_behind}
-use Rattle.room_state.specs.room_turns.Turns.{entry_of, step_of}
-use Rattle.room_state.specs.room_turns.BufferSearches.{seen}
+use Rattle.room_state.specs.turns.Turns.{Kept, state_behind}
+use Rattle.room_state.specs.turns.Turns.{entry_of, step_of}
+use Rattle.room_state.specs.turns.BufferSearches.{seen}
 use Rattle.move_pipeline.specs.Finds.{found}
 use Rattle.move_pipeline.proofs.Founds.{entry_takes, tells}
 use Rattle.move_pipeline.proofs.search.take_pages.Goals as goal

@@ -1,5 +1,5 @@
 use Rattle.std.proofs.Common.{◌+◌, ◌%◌, ◌/◌, ◌≤◌, ◌∙◌, arith, length, subst, take_all}
-use Rattle.room_representation.specs.room_steps.Lent.{as_buffer}
+use Rattle.room_representation.specs.steps.Lent.{as_buffer}
 use Rattle.room_jobs.specs.Writes.{HasPut}
 use Rattle.room_jobs.proofs.Put.{pages_kept, put_more}
 use Rattle.room_jobs.proofs.writes.put.Goals as goal

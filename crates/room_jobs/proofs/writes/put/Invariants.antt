@@ -1,5 +1,5 @@
 use Rattle.std.proofs.Common.{◌≡◌, ◌-◌, ◌≤◌, length, take}
-use Rattle.room_representation.specs.room_steps.Lent.{as_buffer}
+use Rattle.room_representation.specs.steps.Lent.{as_buffer}
 use Rattle.room_jobs.specs.Writes.{HasPut}
 use Rattle.room_jobs.proofs.writes.put.Given as goal
 

@@ -1,7 +1,7 @@
 use Rattle.std.proofs.Common.{◌∙◌, ap, refl}
 use Rattle.journal_model.specs.rules.Places.{frame_of}
-use Rattle.room_representation.specs.lemma_room_bytes.GivenBack.{given_back}
-use Rattle.room_representation.proofs.lemma_room_bytes.Walks.{table_done}
+use Rattle.room_representation.specs.lemma_bytes.GivenBack.{given_back}
+use Rattle.room_representation.proofs.lemma_bytes.Walks.{table_done}
 use Rattle.room_pages.proofs.Turns.{frame_held, frame_back, page_passed}
 use Rattle.room_pages.proofs.frames.give_frames.Goals as goal
 use Rattle.room_pages.proofs.frames.give_frames.Goals.{in-Frame, in_default}

@@ -1,7 +1,7 @@
 use Rattle.std.proofs.Common.{sym, ◌∙◌, ap, subst}
 use Rattle.std.specs.List.{filter_map}
 use Rattle.journal_model.specs.rules.Places.{frame_of}
-use Rattle.room_representation.specs.lemma_room_bytes.GivenBack.{given_back}
+use Rattle.room_representation.specs.lemma_bytes.GivenBack.{given_back}
 use Rattle.room_pages.specs.Tables.{AreHeldInTurn}
 use Rattle.room_pages.proofs.Emptied.{depopulate_below, depopulate_turns, depopulate_held}
 use Rattle.room_pages.proofs.pages.depopulate.Goals as goal

@@ -1,5 +1,5 @@
 use Rattle.std.proofs.Common.{◌++◌, ◌+◌, ◌-◌, ◌/◌, ◌%◌, ◌∙◌, ap}
-use Rattle.room_representation.proofs.room_steps.Lent.{lent_below}
+use Rattle.room_representation.proofs.steps.Lent.{lent_below}
 use Rattle.room_queries.specs.Bytes.{bytes_in, page_of_bo}
 use Rattle.room_queries.proofs.Read.{lent_has, both_shown, room_behind}
 use Rattle.room_queries.proofs.bytes.shown.Goals as goal

@@ -1,6 +1,6 @@
 use Rattle.std.proofs.Common.{◌∙◌}
 use Rattle.journal_model.specs.rules.Legal.{state_of, stores_of}
-use Rattle.room_representation.proofs.lemma_room_bytes.Lowest.{slot_first}
+use Rattle.room_representation.proofs.lemma_bytes.Lowest.{slot_first}
 use Rattle.room_queries.proofs.counters.free_slot.Goals as goal
 
 pub returns : goal.returns

@@ -12,5 +12,5 @@ need-requires c = lent_length c.args.script.now c.args.before.now c.args.parts.n
 
 pub returns : goal.returns
 returns c =
-    c.need.ensures ∙ ap (λ u. needed u c.args.parts.now.line c.get.result.now.resv.fences) c.covering.ensures
+    c.need.ensures ∙ ap (λ u. needed u c.args.parts.now.timeline c.get.result.now.resv.fences) c.covering.ensures
     ∙ lent_need c.args.script.now c.args.before.now c.args.parts.now c.requires.held c.args.b c.requires.declared c.get.result.now c.get.ensures c.args.usage

@@ -1,7 +1,7 @@
 use Rattle.std.proofs.Common.{◌≡◌, Some, subst, sym, ap, ◌∙◌}
 use Rattle.journal_model.specs.rules.ApplyCommands.{released}
-use Rattle.rules_state.specs.rules_parts.Pins.{HasPinsLeft}
-use Rattle.rules_state.proofs.rules_parts.PinLaws.{pins_left_released}
+use Rattle.rules_state.specs.parts.Pins.{HasPinsLeft}
+use Rattle.rules_state.proofs.parts.PinLaws.{pins_left_released}
 use Rattle.rules_apply.proofs.commands.answered_reservations.Goals as goal
 
 pub change_pins-requires : goal.change_pins-requires

@@ -3,8 +3,8 @@ use Rattle.std.specs.Prelude.{◌&&◌, find}
 use Rattle.ttm_base.specs.declared.BufId.{BufId}
 use Rattle.journal_model.specs.rules.State.{buffer, reservation}
 use Rattle.journal_model.specs.rules.Dry.{has_frame, is_loose}
-use Rattle.room_state.specs.room_turns.Turns.{state_behind}
-use Rattle.room_state.proofs.room_turns.WalkLaws.{find_here, find_past}
+use Rattle.room_state.specs.turns.Turns.{state_behind}
+use Rattle.room_state.proofs.turns.WalkLaws.{find_here, find_past}
 use Rattle.swap_core.proofs.buffers.first_swappable.Goals as goal
 
 pub returns-then-is_swappable : goal.returns-then-is_swappable

@@ -2,7 +2,7 @@ use Rattle.std.proofs.Common.{◌≡◌}
 use Rattle.std.specs.Prelude.{◌&&◌, find}
 use Rattle.journal_model.specs.rules.State.{buffer, reservation}
 use Rattle.journal_model.specs.rules.Dry.{has_frame, is_loose}
-use Rattle.room_state.specs.room_turns.Turns.{state_behind}
+use Rattle.room_state.specs.turns.Turns.{state_behind}
 use Rattle.swap_core.proofs.buffers.first_swappable.Given as goal
 
 -- the first of what is left is the first of all

@@ -3,7 +3,7 @@ use Rattle.std.specs.Prelude.{◌&&◌, find}
 use Rattle.ttm_base.specs.declared.BufId.{BufId}
 use Rattle.journal_model.specs.rules.State.{buffer, reservation}
 use Rattle.journal_model.specs.rules.Dry.{has_frame, is_loose}
-use Rattle.room_state.specs.room_turns.Turns.{state_behind}
+use Rattle.room_state.specs.turns.Turns.{state_behind}
 use Rattle.swap_core.proofs.VictimLaws.{victim_first, victim_second}
 use Rattle.swap_core.proofs.buffers.swap_victim.Goals as goal
 

@@ -1,6 +1,6 @@
 use Rattle.std.proofs.Common.{◌≡◌, IfOk, ◌∙◌, ap, subst}
-use Rattle.room_state.specs.room_turns.Turns.{state_behind}
-use Rattle.room_state.specs.room_turns.Turns.{step_by}
+use Rattle.room_state.specs.turns.Turns.{state_behind}
+use Rattle.room_state.specs.turns.Turns.{step_by}
 use Rattle.swap_core.proofs.FillLaws.{fill_needs}
 use Rattle.swap_core.proofs.filling.fill_buffer.Goals as goal
 

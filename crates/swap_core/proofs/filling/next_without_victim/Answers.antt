@@ -1,5 +1,5 @@
 use Rattle.std.proofs.Common.{Some, None}
-use Rattle.room_state.specs.room_turns.Turns.{state_behind}
+use Rattle.room_state.specs.turns.Turns.{state_behind}
 use Rattle.swap_core.proofs.FillLaws.{without_victim}
 use Rattle.swap_core.proofs.filling.next_without_victim.Goals as goal
 

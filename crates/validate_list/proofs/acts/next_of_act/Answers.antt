@@ -1,8 +1,8 @@
 use Rattle.std.proofs.Common.{◌≡◌, ◌∙◌, sym, ap}
 use Rattle.std.proofs.lemmas.Result.{IfOk-weaker}
 use Rattle.ttm_base.specs.declared.Actor.TheVariants as actor
-use Rattle.room_state.specs.room_turns.Acting.{entry_by}
-use Rattle.room_state.specs.room_turns.Turns.{entry_of}
+use Rattle.room_state.specs.turns.Acting.{entry_by}
+use Rattle.room_state.specs.turns.Turns.{entry_of}
 use Rattle.validate_list.specs.Acts.{act_of}
 use Rattle.validate_list.proofs.Acting.{acting}
 use Rattle.validate_list.proofs.Shown.{act_entry}

@@ -7,4 +7,4 @@ use Rattle.fence_core.proofs.fence_set.FenceSet.need.Given as goal
 -- no context so far has such a job
 abbrev pub invariant-loop-ctx : goal.invariant-loop-ctx
 invariant-loop-ctx l =
-    find (is_open l.usage l.line l.self) (range_with_len 0 (length l.self)) ≡ find (is_open l.usage l.line l.self) (range_with_len l.ctx (length l.self - l.ctx))
+    find (is_open l.usage l.timeline l.self) (range_with_len 0 (length l.self)) ≡ find (is_open l.usage l.timeline l.self) (range_with_len l.ctx (length l.self - l.ctx))

@@ -7,11 +7,11 @@ use Rattle.fence_core.proofs.fence_set.FenceSet.need_of_all.Goals as goal
 
 pub returns-clause-job : goal.returns-clause-job
 returns-clause-job c =
-    λ fences e known. ap (needed c.args.usage c.args.line.now) e ∙ set_needs c.args.usage c.args.line.now (length c.args.self.now) fences known
+    λ fences e known. ap (needed c.args.usage c.args.timeline.now) e ∙ set_needs c.args.usage c.args.timeline.now (length c.args.self.now) fences known
 
 pub returns-clause-none : goal.returns-clause-none
 returns-clause-none c =
     λ fences e known.
-    let named : needed c.args.usage c.args.line.now c.args.self.now ≡ named_job (waiting c.args.usage c.args.line.now fences) =
-    ap (needed c.args.usage c.args.line.now) e ∙ set_needs c.args.usage c.args.line.now (length c.args.self.now) fences known in
-    rw named (named_none (waiting c.args.usage c.args.line.now fences))
+    let named : needed c.args.usage c.args.timeline.now c.args.self.now ≡ named_job (waiting c.args.usage c.args.timeline.now fences) =
+    ap (needed c.args.usage c.args.timeline.now) e ∙ set_needs c.args.usage c.args.timeline.now (length c.args.self.now) fences known in
+    rw named (named_none (waiting c.args.usage c.args.timeline.now fences))

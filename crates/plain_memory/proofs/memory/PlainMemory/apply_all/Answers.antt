@@ -1,4 +1,4 @@
-use Rattle.plain_memory.proofs.RoomLaws.{becomes_next}
+use Rattle.plain_memory.proofs.ContentLaws.{becomes_next}
 use Rattle.plain_memory.proofs.memory.PlainMemory.apply_all.Goals as goal
 
 pub loop-op-preserved : goal.loop-op-preserved

@@ -1,7 +1,7 @@
 use Rattle.std.proofs.Common.{◌≡◌, ℕ, ◌∙◌, ap, length, subst, sym}
 use Rattle.plain_memory.specs.Fits.{HasRange}
 use Rattle.plain_memory.specs.Kept.{memory_in, sizes_in}
-use Rattle.plain_memory.proofs.RoomLaws.{becomes_copy, length-range}
+use Rattle.plain_memory.proofs.ContentLaws.{becomes_copy, length-range}
 use Rattle.plain_memory.proofs.memory.PlainMemory.copy.Goals as goal
 
 pub write-requires : goal.write-requires

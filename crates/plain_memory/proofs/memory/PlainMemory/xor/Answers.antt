@@ -1,7 +1,7 @@
 use Rattle.std.proofs.Common.{◌≡◌, ℕ, List, ◌∙◌, ap, get_or, length, subst, sym}
 use Rattle.plain_memory.specs.Fits.{HasRange}
 use Rattle.plain_memory.specs.Kept.{memory_in, sizes_in}
-use Rattle.plain_memory.proofs.RoomLaws.{becomes_xor, length-range}
+use Rattle.plain_memory.proofs.ContentLaws.{becomes_xor, length-range}
 use Rattle.plain_memory.proofs.memory.PlainMemory.xor.Goals as goal
 
 pub xored-requires : goal.xored-requires

@@ -1,4 +1,4 @@
-use Rattle.room_representation.proofs.room_steps.Lent.{lent_below, lent_is}
+use Rattle.room_representation.proofs.steps.Lent.{lent_below, lent_is}
 use Rattle.room_state.proofs.rooms.Rooms.lent.Goals as goal
 
 pub get-requires : goal.get-requires
