@@ -231,6 +231,41 @@ def ghosts(size):
     return script
 
 
+@load(12)
+def unaligned(size):
+    """buffers of two aligned pages come and go in TT, since none of SIZE holes of two pages in VRAM by ranges is aligned"""
+    script = Script(f"range {4 * size + 1}", tt=64, frames=64)
+    names = script.declare(["o"], 1, "vram") + script.declare(numbered("b", 2 * size), 2, "vram")
+    script.first = each(names, "new *", "find *") + each(names[1::2], "free *")
+    script.buffers.append("buffer w 2 prio 1 group - align 2 want vram,tt busy vram,tt")
+    script.threads = [around(["w"], 500, "new *", "find *", "free *")]
+    return script
+
+
+@load(25)
+def skips(size):
+    """searches in VRAM, which SIZE buffers fill that find no other place, so that each is caught and skipped"""
+    script = Script(f"range {size}", tt=1, frames=size + 4)
+    names = script.declare(numbered("b", size), 1, "vram")
+    script.declare(["p"], 1, "tt")
+    script.declare(["w"], 1, "vram")
+    script.first = each(names, "new *", "find *") + ["new p", "find p", "pin p", "new w"]
+    script.threads = [["find w"] * 8]
+    return script
+
+
+@load(100)
+def ghosts_in_vain(size):
+    """searches in VRAM without a page that can be had, beside SIZE ghosts of buffers elsewhere"""
+    script = Script("range 1", tt=1, frames=16384)
+    script.declare(["a"], 1, "sys")
+    script.declare(["p", "w"], 1, "vram")
+    script.first = ["new p", "find p", "pin p", "new w"]
+    script.threads = [around(["a"], size, "new *", "submit 1 fill * 0 1 55", "free *"), ["find w"] * 3000]
+    script.schedule = ["t1"] * 40 + ["e0"] * 2 + ["t1"] * 40 + ["r"] + ["t2"] * 12 * size + ["t3"] * 6 * 3000
+    return script
+
+
 @load(1600)
 def frames(size):
     """a buffer of four pages comes and goes, beside four that hold SIZE frames"""
