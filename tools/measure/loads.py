@@ -262,6 +262,7 @@ def ghosts_in_vain(size):
     script.declare(["p", "w"], 1, "vram")
     script.first = ["new p", "find p", "pin p", "new w"]
     script.threads = [around(["a"], size, "new *", "submit 1 fill * 0 1 55", "free *"), ["find w"] * 3000]
+    # p goes to VRAM first; then come the ghosts, and the searches before the engine runs
     script.schedule = ["t1"] * 40 + ["e0"] * 2 + ["t1"] * 40 + ["r"] + ["t2"] * 12 * size + ["t3"] * 6 * 3000
     return script
 
