@@ -1,15 +1,15 @@
 -- Pages of bytes that lie in slots.
-use Rattle.std.proofs.Common.{◌≡◌, ◌≢◌, ℕ, zero, suc, ◌+◌, ◌*◌, ◌/◌, ◌<◌, ◌≤◌, inl, inr, List, [], ◌∷◌, ◌++◌, length, take, drop, get_or, set, replicate, refl, ap, ◌∙◌, sym, subst, append_assoc, length-append, length-set, get_or-set_same, get_or-set_other, arith}
+use Rattle.std.proofs.Common.{◌≡◌, ◌≢◌, ℕ, zero, suc, ◌+◌, ◌*◌, ◌/◌, ◌<◌, ◌≤◌, inl, inr, List, [], ◌∷◌, ◌++◌, length, take, drop, get_or, set, replicate, bit_xor, refl, ap, ◌∙◌, sym, subst, append_assoc, length-append, length-set, get_or-set_same, get_or-set_other, arith}
 use Rattle.std.specs.Prelude.{◌%◌}
 use Rattle.std.proofs.Math.Seq.{drop-append-add, take-add, take-append-add}
 use Rattle.std.proofs.lemmas.Bool.{cases_lt}
 use Rattle.std.proofs.lemmas.List.{drop-drop, ext_get_or, get_or_default, length-replicate, set-get_or, take-append-drop}
 use Rattle.std.proofs.lemmas.Grind.{common_steps}
-use Rattle.byte_store.specs.Parts.{filled, overwritten, part}
+use Rattle.byte_store.specs.Parts.{filled, overwritten, part, xored}
 use Rattle.byte_store.specs.Slots.{HasSlots, IsPlace, IsReady, count_begun, own_slot, page_bytes, shown_slot, slot_bytes}
 use Rattle.byte_store.specs.declared.slots.Stored.{Stored}
 use Rattle.byte_store.specs.declared.slots.Stored.TheVariants as stored
-use Rattle.byte_store.proofs.PartLaws.{get_or-overwritten_behind, get_or-overwritten_below, get_or-part, length-filled, length-overwritten, length-part}
+use Rattle.byte_store.proofs.PartLaws.{get_or-overwritten_behind, get_or-overwritten_below, get_or-part, length-filled, length-overwritten, length-part, length-xored}
 use Rattle.byte_store.proofs.StoredLaws.{filled_is, two_filled}
 
 -- ---- the first of two, and the second
@@ -667,6 +667,81 @@ copied_more old now new from at done count h k is then =
   where
     take_more : (xs : List ℕ) (n m : ℕ) → take (n + m) xs ≡ take n xs ++ part xs n m
     take_more xs n m = take-add n m xs
+
+-- a part and the next one
+pub parts_join : (bytes : List ℕ) (from n m : ℕ) → part bytes from n ++ part bytes (from + n) m ≡ part bytes from (n + m)
+parts_join bytes from n m = sym (take-add n m (drop from bytes) ∙ ap (λ xs. take n (drop from bytes) ++ take m xs) (drop-drop n from bytes))
+
+-- one part more of the bytes themselves, after those that are copied
+pub copied_down : (old now new : List ℕ) (to from done count : ℕ) → to ≤ from → from + done + count ≤ length old → now ≡ overwritten old to (part old from done)
+    → new ≡ overwritten now (to + done) (part now (from + done) count) → new ≡ overwritten old to (part old from (done + count))
+copied_down old now new to from done count o h is then =
+    let d = length-part old from done (omega (arith, h)) in
+    let p = length-part old (from + done) count h in
+    let e : to + done ≡ to + length (part old from done) = omega (arith, d) in
+    then
+    ∙ ap (λ xs. overwritten now (to + done) xs)
+    (ap (λ xs. part xs (from + done) count) is ∙ part_after old (from + done) count to (part old from done) (omega (arith, o, d)) h)
+    ∙ ap (λ xs. overwritten xs (to + done) (part old (from + done) count)) is
+    ∙ ap (λ i. overwritten (overwritten old to (part old from done)) i (part old (from + done) count)) e
+    ∙ written_twice old to (part old from done) (part old (from + done) count) (omega (arith, d, p, h, o))
+    ∙ ap (λ xs. overwritten old to xs) (parts_join old from done count)
+
+-- what is written in front of what was written before
+written_before : (bytes : List ℕ) (at : ℕ) (first second : List ℕ) → at + length first + length second ≤ length bytes
+    → overwritten (overwritten bytes (at + length first) second) at first ≡ overwritten bytes at (first ++ second)
+written_before bytes at first second h = grind (arith, common_steps)
+
+-- one part more of the bytes themselves, before those that are copied
+pub copied_up : (old now new : List ℕ) (to from left count done : ℕ) → from ≤ to → to + left + count + done ≤ length old
+    → now ≡ overwritten old (to + left + count) (part old (from + left + count) done)
+    → new ≡ overwritten now (to + left) (part now (from + left) count) → new ≡ overwritten old (to + left) (part old (from + left) (count + done))
+copied_up old now new to from left count done o h is then =
+    let d = length-part old (from + left + count) done (omega (arith, h, o)) in
+    let p = length-part old (from + left) count (omega (arith, h, o)) in
+    let e : to + left + count ≡ to + left + length (part old (from + left) count) = omega (arith, p) in
+    then
+    ∙ ap (λ xs. overwritten now (to + left) xs)
+    (ap (λ xs. part xs (from + left) count) is
+    ∙ part_before old (from + left) count (to + left + count) (part old (from + left + count) done) (omega (arith, o)) (omega (arith, h, d)))
+    ∙ ap (λ xs. overwritten xs (to + left) (part old (from + left) count)) is
+    ∙ ap (λ i. overwritten (overwritten old i (part old (from + left + count) done)) (to + left) (part old (from + left) count)) e
+    ∙ written_before old (to + left) (part old (from + left) count) (part old (from + left + count) done) (omega (arith, d, p, h))
+    ∙ ap (λ xs. overwritten old (to + left) xs) (parts_join old (from + left) count done)
+
+-- exclusive or of one part after another
+xored_append : (xs ys zs ws : List ℕ) → length xs ≡ length zs → xored (xs ++ ys) (zs ++ ws) ≡ xored xs zs ++ xored ys ws
+xored_append [] ys [] ws h = refl
+xored_append [] ys (z ∷ zs) ws h = cc
+xored_append (x ∷ xs) ys [] ws h = cc
+xored_append (x ∷ xs) ys (z ∷ zs) ws h = ap (λ rest. bit_xor x z ∷ rest) (xored_append xs ys zs ws (omega (arith, h)))
+
+-- one part more
+pub exclusive_more : (old now new from next : List ℕ) (at done count : ℕ) → done + count ≤ length from → at + length from ≤ length old
+    → now ≡ overwritten old at (xored (part old at done) (take done from)) → next ≡ part from done count
+    → new ≡ overwritten now (at + done) (xored (part now (at + done) (length next)) next)
+    → new ≡ overwritten old at (xored (part old at (done + count)) (take (done + count) from))
+exclusive_more old now new from next at done count h k is s then =
+    let a = length-part old at done (omega (arith, h, k)) in
+    let t : length (take done from) ≡ done = before_part from done (omega (arith, h)) in
+    let x = length-xored (part old at done) (take done from) (a ∙ sym t) in
+    let q = length-part old (at + done) count (omega (arith, h, k)) in
+    let p = length-part from done count h in
+    let y = length-xored (part old (at + done) count) (part from done count) (q ∙ sym p) in
+    let e : at + done ≡ at + length (xored (part old at done) (take done from)) = omega (arith, a, x) in
+    then
+    ∙ ap (λ xs. overwritten now (at + done) (xored (part now (at + done) (length xs)) xs)) s
+    ∙ ap (λ n. overwritten now (at + done) (xored (part now (at + done) n) (part from done count))) p
+    ∙ ap (λ xs. overwritten now (at + done) (xored xs (part from done count)))
+    (ap (λ xs. part xs (at + done) count) is
+    ∙ part_after old (at + done) count at (xored (part old at done) (take done from)) (omega (arith, a, x)) (omega (arith, h, k)))
+    ∙ ap (λ xs. overwritten xs (at + done) (xored (part old (at + done) count) (part from done count))) is
+    ∙ ap (λ i. overwritten (overwritten old at (xored (part old at done) (take done from))) i (xored (part old (at + done) count) (part from done count))) e
+    ∙ written_twice old at (xored (part old at done) (take done from)) (xored (part old (at + done) count) (part from done count)) (omega (arith, a, x, q, y, h, k))
+    ∙ ap (λ xs. overwritten old at xs)
+    (sym (xored_append (part old at done) (part old (at + done) count) (take done from) (part from done count) (a ∙ sym t))
+    ∙ ap (λ xs. xored xs (take done from ++ part from done count)) (parts_join old at done count)
+    ∙ ap (λ xs. xored (part old at (done + count)) xs) (sym (take-add done count from)))
 
 -- what is ready for a whole page
 pub ready_whole : (table : List Stored) (slots bytes : List ℕ) (to start n at len : ℕ) → IsReady table slots bytes to start n → start ≡ at → len ≡ n → IsReady table slots bytes to at len

@@ -44,6 +44,17 @@ fn left_in_page(at: u64) -> usize
     (PAGE - at % PAGE) as usize
 }
 
+/// Returns how many bytes there are from the beginning of a page up to position `end`, at least one.
+fn begun_of_page(end: u64) -> usize
+    requires { 0 < end }
+    ensures inside { result ≤ end }
+    ensures some { 0 < result }
+    ensures page { result ≤ PAGE }
+    ensures first { (end - result) % PAGE ≡ 0 }
+{
+    ((end - 1) % PAGE + 1) as usize
+}
+
 impl ByteStore {
     ghost use Rattle.byte_store.specs.Parts.{filled, overwritten, part, xored};
 
@@ -90,6 +101,20 @@ impl ByteStore {
         }
         let start = shown_place(&self.table, at);
         &self.slots[start..start + len as usize]
+    }
+
+    /// Copies the bytes from position `at` on to `into`, at most a page of them, of one page or of two.
+    fn read(&self, at: u64, into: &mut [u8])
+        requires page { length into.old ≤ PAGE }
+        requires inside { at + length into.old ≤ length self.now }
+        ensures { into.new ≡ part self.now at (length into.old) }
+    {
+        let size = self.size();
+        prove!(at <= size);
+        let first = left_in_page(at).min(into.len());
+        let (head, tail) = into.split_at_mut(first);
+        head.copy_from_slice(self.part(at, first as u64));
+        tail.copy_from_slice(self.part(at + first as u64, tail.len() as u64));
     }
 
     /// Returns the number of bytes.
@@ -169,9 +194,9 @@ impl ByteStore {
         }
     }
 
-    /// Copies `len` bytes of one page of the store, from position `from` on, to position `to` of one page. The two parts may
-    /// overlap.
-    pub fn copy_within(&mut self, to: u64, from: u64, len: u64)
+    /// Copies `len` bytes from position `from` on to position `to`, each part in one page. The two parts may overlap.
+    fn copy_in_page(&mut self, to: u64, from: u64, len: usize)
+        requires some { 0 < len }
         requires source_page { from % PAGE + len ≤ PAGE }
         requires target_page { to % PAGE + len ≤ PAGE }
         requires source { from + len ≤ length self.old }
@@ -179,34 +204,99 @@ impl ByteStore {
         ensures after { self.new ≡ overwritten self.old to (part self.old from len) }
         ensures len { length self.new ≡ length self.old }
     {
-        if len == 0 {
-            return;
-        }
         let into = open_place(&mut self.table, &mut self.slots, to);
         let start = shown_place(&self.table, from);
-        move_part(&mut self.slots, into, start, len as usize);
+        move_part(&mut self.slots, into, start, len);
     }
 
-    /// Replaces each byte from position `to` of one page on by its exclusive or with that of `from`, of another store or of
-    /// a buffer.
-    pub fn xor_page_part(&mut self, to: u64, from: &[u8])
+    /// Copies `len` bytes from position `from` on to position `to`, at or before it, the first bytes first.
+    fn copy_down(&mut self, to: u64, from: u64, len: u64)
+        requires order { to ≤ from }
+        requires source { from + len ≤ length self.old }
+        ensures after { self.new ≡ overwritten self.old to (part self.old from len) }
+        ensures len { length self.new ≡ length self.old }
+    {
+        let size = self.size();
+        prove!(from <= size && len <= size - from);
+        let mut done = 0;
+        while done < len {
+            let (into, start) = (to + done, from + done);
+            let count = left_in_page(into)
+                .min(left_in_page(start))
+                .min((len - done) as usize);
+            self.copy_in_page(into, start, count);
+            done += count as u64;
+        }
+    }
+
+    /// Copies `len` bytes from position `from` on to position `to`, after it, the last bytes first.
+    fn copy_up(&mut self, to: u64, from: u64, len: u64)
+        requires order { from < to }
+        requires target { to + len ≤ length self.old }
+        ensures after { self.new ≡ overwritten self.old to (part self.old from len) }
+        ensures len { length self.new ≡ length self.old }
+    {
+        let size = self.size();
+        prove!(to <= size && len <= size - to);
+        let mut left = len;
+        while left > 0 {
+            let count = begun_of_page(to + left)
+                .min(begun_of_page(from + left))
+                .min(left as usize);
+            left -= count as u64;
+            self.copy_in_page(to + left, from + left, count);
+        }
+    }
+
+    /// Copies `len` bytes of the store, from position `from` on, to position `to`. The pages may be several, and the two
+    /// parts may overlap. Of a page that is zeros and that bytes are copied to, the other bytes are cleared first.
+    pub fn copy_within(&mut self, to: u64, from: u64, len: u64)
+        requires source { from + len ≤ length self.old }
+        requires target { to + len ≤ length self.old }
+        ensures after { self.new ≡ overwritten self.old to (part self.old from len) }
+        ensures len { length self.new ≡ length self.old }
+    {
+        if to <= from {
+            self.copy_down(to, from, len);
+        } else {
+            self.copy_up(to, from, len);
+        }
+    }
+
+    /// Replaces each byte from position `to` of one page on by its exclusive or with that of `from`.
+    fn xor_in_page(&mut self, to: u64, from: &[u8])
+        requires some { 0 < length from.now }
         requires page { to % PAGE + length from.now ≤ PAGE }
         requires inside { to + length from.now ≤ length self.old }
         ensures after { self.new ≡ overwritten self.old to (xored (part self.old to (length from.now)) from.now) }
         ensures len { length self.new ≡ length self.old }
     {
-        if from.is_empty() {
-            return;
-        }
         let start = open_place(&mut self.table, &mut self.slots, to);
         xor_part(&mut self.slots, start, from);
     }
 
-    /// Replaces each of `len` bytes at position `to` of one page by its exclusive or with that at position `from` of one
-    /// page. The two parts may overlap.
+    /// Replaces each byte from position `to` on by its exclusive or with that of `from`, of another store or of a buffer.
+    /// The pages may be several.
+    pub fn xor_page_part(&mut self, to: u64, from: &[u8])
+        requires { to + length from.now ≤ length self.old }
+        ensures after { self.new ≡ overwritten self.old to (xored (part self.old to (length from.now)) from.now) }
+        ensures len { length self.new ≡ length self.old }
+    {
+        let size = self.size();
+        prove!(to <= size);
+        let mut done = 0;
+        while done < from.len() {
+            let start = to + done as u64;
+            let count = left_in_page(start).min(from.len() - done);
+            self.xor_in_page(start, &from[done..done + count]);
+            done += count;
+        }
+    }
+
+    /// Replaces each of `len` bytes at position `to`, at most a page of them, by its exclusive or with that at position
+    /// `from`. The pages may be several, and the two parts may overlap.
     pub fn xor_within(&mut self, to: u64, from: u64, len: u64)
-        requires source_page { from % PAGE + len ≤ PAGE }
-        requires target_page { to % PAGE + len ≤ PAGE }
+        requires page { len ≤ PAGE }
         requires source { from + len ≤ length self.old }
         requires target { to + len ≤ length self.old }
         ensures after { self.new ≡ overwritten self.old to (xored (part self.old to len) (part self.old from len)) }
@@ -214,7 +304,7 @@ impl ByteStore {
     {
         let mut copy = [0; PAGE as usize];
         let copy = &mut copy[..len as usize];
-        copy.copy_from_slice(self.part(from, len));
+        self.read(from, copy);
         self.xor_page_part(to, copy);
     }
 }

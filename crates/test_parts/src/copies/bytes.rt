@@ -14,20 +14,21 @@ pub fn assert_bytes(rt: &impl Abort, store: &ByteStore, at: u64, want: &[u8])
     }
 }
 
+/// Asserts that `len` bytes from `at` on are within `pages` pages.
+fn assert_inside(rt: &impl Abort, at: u64, len: u64, pages: u32)
+    ensures { at + len ≤ 4096 * pages }
+{
+    let size = 4096 * pages as u64;
+    ensure(rt, len <= size && at <= size - len);
+}
+
 /// Asserts that `len` bytes from `at` on are at most a page, and within `pages` pages.
 pub fn assert_within(rt: &impl Abort, at: u64, len: u64, pages: u32)
     ensures page { len ≤ 4096 }
     ensures within { at + len ≤ 4096 * pages }
 {
-    let size = 4096 * pages as u64;
-    ensure(rt, len <= 4096 && len <= size && at <= size - len);
-}
-
-/// Asserts that `len` bytes from `at` on are of one page.
-pub fn assert_on_page(rt: &impl Abort, at: u64, len: u64)
-    ensures { at % 4096 + len ≤ 4096 }
-{
-    ensure(rt, len <= 4096 && at % 4096 <= 4096 - len);
+    ensure(rt, len <= 4096);
+    assert_inside(rt, at, len, pages);
 }
 
 /// What is done to a store, as its calls are named, or bytes that it is to have from a place on.
@@ -63,22 +64,17 @@ fn take(rt: &impl Abort, store: &mut ByteStore, pages: u32, step: Step)
             store.copy_page_part(at, bytes);
         }
         Step::CopyWithin(to, from, len) => {
-            assert_within(rt, to, len, pages);
-            assert_within(rt, from, len, pages);
-            assert_on_page(rt, to, len);
-            assert_on_page(rt, from, len);
+            assert_inside(rt, to, len, pages);
+            assert_inside(rt, from, len, pages);
             store.copy_within(to, from, len);
         }
         Step::XorPagePart(at, bytes) => {
             assert_within(rt, at, bytes.len() as u64, pages);
-            assert_on_page(rt, at, bytes.len() as u64);
             store.xor_page_part(at, bytes);
         }
         Step::XorWithin(to, from, len) => {
             assert_within(rt, to, len, pages);
             assert_within(rt, from, len, pages);
-            assert_on_page(rt, to, len);
-            assert_on_page(rt, from, len);
             store.xor_within(to, from, len);
         }
         Step::ZeroPage(page) => {
@@ -165,6 +161,35 @@ const CLEARED: &[Step] = &[
     Step::Has(4095, &[0, 9, 0]),
 ];
 
+/// Parts of two pages. Those that overlap are read before they are written.
+const OVER_A_BORDER: &[Step] = &[
+    Step::CopyPagePart(4093, &[1, 2, 3, 4, 5, 6]),
+    Step::CopyWithin(4095, 4093, 6),
+    Step::Has(4092, &[0, 1, 2, 1, 2, 3, 4, 5, 6, 0]),
+    Step::CopyWithin(4092, 4094, 7),
+    Step::Has(4091, &[0, 2, 1, 2, 3, 4, 5, 6, 5, 6, 0]),
+    Step::XorPagePart(4094, &[0xff, 1, 2, 3]),
+    Step::Has(4092, &[2, 1, 0xfd, 2, 6, 6, 6, 5, 6, 0]),
+    Step::XorWithin(4095, 4093, 4),
+    Step::Has(4092, &[2, 1, 0xfd, 3, 0xfb, 4, 0, 5, 6, 0]),
+];
+
+/// More bytes than a page has are copied to where some of them stand, behind and in front.
+const LONG_COPIES: &[Step] = &[
+    Step::Put(1, 7),
+    Step::Put(9000, 8),
+    Step::CopyWithin(5000, 0, 10000),
+    Step::Has(0, &[0, 7, 0]),
+    Step::Has(5000, &[0, 7, 0]),
+    Step::Has(8999, &[0, 0, 0]),
+    Step::Has(13999, &[0, 8, 0]),
+    Step::CopyWithin(3, 5000, 10000),
+    Step::Has(3, &[0, 7, 0]),
+    Step::Has(5000, &[0, 0, 0]),
+    Step::Has(9002, &[0, 8, 0]),
+    Step::Has(13999, &[0, 8, 0]),
+];
+
 /// The number of pages of a store, and the steps in it.
 const STORES: &[(u32, &[Step])] = &[
     (2, ON_TWO_PAGES),
@@ -173,6 +198,8 @@ const STORES: &[(u32, &[Step])] = &[
     (40, FAR_COPIES),
     (40, FAR_XOR),
     (2, CLEARED),
+    (2, OVER_A_BORDER),
+    (4, LONG_COPIES),
 ];
 
 /// Takes the steps in a new store of `pages` pages.

@@ -1,63 +1,18 @@
-use Rattle.std.proofs.Common.{◌≡◌, ℕ, zero, suc, ◌/◌, ◌<◌, length, ap, sym, ◌∙◌, arith}
-use Rattle.std.specs.Prelude.{◌%◌, ◌==◌, false}
-use Rattle.byte_store.specs.Parts.{overwritten, part, xored}
-use Rattle.byte_store.specs.Slots.{page_bytes}
-use Rattle.byte_store.proofs.PartLaws.{length-overwritten, length-part, length-xored}
-use Rattle.byte_store.proofs.SlotLaws.{has_written, page_count, place_fits, read_there, written_there}
+use Rattle.std.proofs.Common.{◌+◌, ◌-◌, ap, ◌∙◌, arith}
+use Rattle.byte_store.specs.Parts.{part}
+use Rattle.byte_store.proofs.SlotLaws.{exclusive_more}
 use Rattle.byte_store.proofs.ByteStore.xor_page_part.Goals as goal
 
-at_least_one : (n : ℕ) → (n == 0) ≡ false → 0 < n
-at_least_one zero e = cc
-at_least_one (suc n) e = omega arith
-
-pub open_place-start-requires-clause-page : goal.open_place-start-requires-clause-page
-open_place-start-requires-clause-page c =
-    let some : 0 < length c.args.from.now = at_least_one (length c.args.from.now) (sym c.is_empty.ensures ∙ c.if-is_empty.false) in
-    let count = page_count c.self.inside.table.items c.self.inside.slots.items c.self.inside.slots.cap c.self.invariant in
-    let v = ap (λ xs. length xs) c.self.view_is in
-    let i = c.requires.inside in
-    omega (arith, count, v, i, some)
-
-pub xor_part-requires : goal.xor_part-requires
-xor_part-requires c =
-    let f = place_fits c.open_place-start.new.table.items c.open_place-start.new.slots.items c.open_place-start.new.slots.cap c.open_place-start.ensures.slots (c.args.to / 4096) (c.args.to % 4096) c.open_place-start.result (length c.args.from.now) c.open_place-start.ensures.place c.requires.page in
-    omega (arith, f)
-
-pub invariant_of-self : goal.invariant_of-self
-invariant_of-self c =
-    let f = place_fits c.open_place-start.new.table.items c.open_place-start.new.slots.items c.open_place-start.new.slots.cap c.open_place-start.ensures.slots (c.args.to / 4096) (c.args.to % 4096) c.open_place-start.result (length c.args.from.now) c.open_place-start.ensures.place c.requires.page in
-    let l = length-part c.open_place-start.new.slots.items c.open_place-start.result (length c.args.from.now) f in
-    let x = length-xored (part c.open_place-start.new.slots.items c.open_place-start.result (length c.args.from.now)) c.args.from.now l in
-    let page = c.requires.page in
-    has_written c.open_place-start.new.table.items c.open_place-start.new.slots.items c.open_place-start.new.slots.cap c.open_place-start.ensures.slots
-    (c.args.to / 4096) (c.args.to % 4096) c.open_place-start.result (xored (part c.open_place-start.new.slots.items c.open_place-start.result (length c.args.from.now)) c.args.from.now) c.xor_part.new.bytes.items c.xor_part.new.bytes.cap
-    c.open_place-start.ensures.place (omega (arith, l, x, page)) c.xor_part.ensures.after c.xor_part.ensures.reserved
-
-pub returns-clause-after : goal.returns-clause-after
-returns-clause-after c =
-    let some : 0 < length c.args.from.now = at_least_one (length c.args.from.now) (sym c.is_empty.ensures ∙ c.if-is_empty.false) in
-    let f = place_fits c.open_place-start.new.table.items c.open_place-start.new.slots.items c.open_place-start.new.slots.cap c.open_place-start.ensures.slots (c.args.to / 4096) (c.args.to % 4096) c.open_place-start.result (length c.args.from.now) c.open_place-start.ensures.place c.requires.page in
-    let l = length-part c.open_place-start.new.slots.items c.open_place-start.result (length c.args.from.now) f in
-    let x = length-xored (part c.open_place-start.new.slots.items c.open_place-start.result (length c.args.from.now)) c.args.from.now l in
-    let page = c.requires.page in
-    let count = page_count c.self.inside.table.items c.self.inside.slots.items c.self.inside.slots.cap c.self.invariant in
-    let v = ap (λ xs. length xs) c.self.view_is in
-    let i = c.requires.inside in
-    let p = c.open_place-start.ensures.pages in
-    let bytes = page_bytes c.open_place-start.new.table.items c.open_place-start.new.slots.items in
-    let place = c.open_place-start.ensures.place in
-    written_there c.open_place-start.new.table.items c.open_place-start.new.slots.items c.open_place-start.new.slots.cap c.open_place-start.ensures.slots
-    c.args.to c.open_place-start.result (xored (part c.open_place-start.new.slots.items c.open_place-start.result (length c.args.from.now)) c.args.from.now) c.xor_part.new.bytes.items (omega (arith, count, v, i, some, p))
-    c.open_place-start.ensures.place (omega (arith, l, x, page)) c.xor_part.ensures.after
-    ∙ ap (λ xs. overwritten bytes c.args.to (xored xs c.args.from.now))
-    (read_there c.open_place-start.new.table.items c.open_place-start.new.slots.items c.open_place-start.new.slots.cap c.open_place-start.ensures.slots
-    c.args.to (length c.args.from.now) c.open_place-start.result (omega (arith, count, v, i, some, p)) place.there c.requires.page)
-    ∙ ap (λ xs. overwritten xs c.args.to (xored (part xs c.args.to (length c.args.from.now)) c.args.from.now)) (c.open_place-start.ensures.same ∙ c.self.view_is)
-
-pub returns-clause-len : goal.returns-clause-len
-returns-clause-len c =
-    let l = length-part c.args.self.now c.args.to (length c.args.from.now) c.requires.inside in
-    let x = length-xored (part c.args.self.now c.args.to (length c.args.from.now)) c.args.from.now l in
-    let i = c.requires.inside in
-    ap (λ xs. length xs) (returns-clause-after c)
-    ∙ length-overwritten c.args.self.now c.args.to (xored (part c.args.self.now c.args.to (length c.args.from.now)) c.args.from.now) (omega (arith, l, x, i))
+pub loop-done-preserved : goal.loop-done-preserved
+loop-done-preserved c =
+    let some = c.loop-done.invariant.some in
+    let m = c.min-count.ensures in
+    let fits = c.requires in
+    let t = c.loop-done-test.true in
+    record {
+      some = omega (arith, some, m, t);
+      after =
+          exclusive_more c.args.self.now c.loop-done.self c.xor_in_page.new.self c.args.from.now (part c.args.from.now c.loop-done.done (c.loop-done.done + c.min-count.result - c.loop-done.done)) c.args.to c.loop-done.done c.min-count.result
+          (omega (arith, some, m, t)) fits c.loop-done.invariant.after (ap (λ n. part c.args.from.now c.loop-done.done n) (omega arith)) c.xor_in_page.ensures.after;
+      size = c.xor_in_page.ensures.len ∙ c.loop-done.invariant.size;
+    }

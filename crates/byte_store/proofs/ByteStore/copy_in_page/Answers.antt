@@ -5,14 +5,14 @@ use Rattle.byte_store.specs.Slots.{page_bytes, shown_slot}
 use Rattle.byte_store.specs.declared.slots.Stored.TheVariants as stored
 use Rattle.byte_store.proofs.PartLaws.{length-overwritten, length-part}
 use Rattle.byte_store.proofs.SlotLaws.{has_written, page_count, place_fits, read_there, shown_fits, written_there}
-use Rattle.byte_store.proofs.ByteStore.copy_within.Goals as goal
+use Rattle.byte_store.proofs.ByteStore.copy_in_page.Goals as goal
 
 pub open_place-into-requires-clause-page : goal.open_place-into-requires-clause-page
 open_place-into-requires-clause-page c =
     let count = page_count c.self.inside.table.items c.self.inside.slots.items c.self.inside.slots.cap c.self.invariant in
     let v = ap (λ xs. length xs) c.self.view_is in
     let i = c.requires.target in
-    let some = c.if-len-eq0.false in
+    let some = c.requires.some in
     omega (arith, count, v, i, some)
 
 pub shown_place-start-requires : goal.shown_place-start-requires
@@ -20,7 +20,7 @@ shown_place-start-requires c =
     let count = page_count c.self.inside.table.items c.self.inside.slots.items c.self.inside.slots.cap c.self.invariant in
     let v = ap (λ xs. length xs) c.self.view_is in
     let i = c.requires.source in
-    let some = c.if-len-eq0.false in
+    let some = c.requires.some in
     let l = c.open_place-into.ensures.pages in
     let d = ap (λ xs. length xs) c.deref.ensures.value in
     omega (arith, count, v, i, some, l, d)
@@ -56,7 +56,7 @@ returns-clause-after c =
     let v = ap (λ xs. length xs) c.self.view_is in
     let t = c.requires.target in
     let s = c.requires.source in
-    let some = c.if-len-eq0.false in
+    let some = c.requires.some in
     let p = c.open_place-into.ensures.pages in
     let bytes = page_bytes c.open_place-into.new.table.items c.open_place-into.new.slots.items in
     written_there c.open_place-into.new.table.items c.open_place-into.new.slots.items c.open_place-into.new.slots.cap c.open_place-into.ensures.slots
