@@ -1,4 +1,5 @@
 -- What a legal journal and a transparent one are: the state, the rules by which it changes, the plain memory.
+pub mod Mentions
 pub mod State
 pub mod Commands
 pub mod Places

@@ -32,16 +32,9 @@ pub fn answer(
 {
     parts.lru.members_stand_once();
     let command = command_of(script, &parts.courses, thread);
-    let bs = named(alloc, command)?;
+    let bs = named(command);
     let held = held_by(&parts.courses, thread);
-    relist(
-        &mut parts.lru,
-        &parts.bos,
-        script,
-        command,
-        held,
-        bs.items(),
-    )?;
+    relist(&mut parts.lru, &parts.bos, script, command, held, bs)?;
     write(&mut parts.stores, &parts.bos, command);
     release_all(&mut parts.bos, held);
     change_pins(&mut parts.bos, command);

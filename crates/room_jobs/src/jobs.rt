@@ -34,8 +34,7 @@ pub fn arm(
 {
     let command = command_at_work(script, &parts.courses, thread);
     let ops = ops_of(command);
-    let named = named_in(alloc, command)?;
-    let bs = named.items();
+    let bs = named_in(command);
     let waits = waits_at(alloc, &parts.bos, parts.timeline.contexts(), ops, bs)?;
     let packets = packets_of(alloc, &parts.bos, ops)?;
     let job = JobId { ctx: engine, num };

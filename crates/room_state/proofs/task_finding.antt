@@ -1,4 +1,2 @@
-pub mod Firsts
 pub mod Unfenced
 pub mod Told
-pub mod Marked

@@ -162,8 +162,7 @@ fn answered_lists(
 ) -> Result<Lists, NoMemory>
     ensures { IfOk result (λ new. new ≡ fold (touched script.now buffers.now reservations.now) lists.now (filter (words.has_buffer held.now) (named_in (option_copied command.entry)))) }
 {
-    let bs = named_in(alloc, command)?;
-    let held = held_among(alloc, held, bs.items())?;
+    let held = held_among(alloc, held, named_in(command))?;
     touched_all(alloc, script, buffers, reservations, lists, held.items())
 }
 

@@ -84,9 +84,9 @@ pub fn arm(
     ensures err { OnErr result (state.new ≡ state.old) }
 {
     let command = command_at_work(script, state, thread);
-    let bs = named_in(alloc, command)?;
     let id = JobId { ctx, num };
-    emit(alloc, &mut state.core, id, ops_of(command), bs.items())?;
+    let bs = named_in(command);
+    emit(alloc, &mut state.core, id, ops_of(command), bs)?;
     put_item(&mut state.last_jobs, ctx, num);
     let course = state.courses.get_mut(thread as usize - 1);
     course.made = true;

@@ -232,7 +232,7 @@ fn step_of_thread(
         command_at_work(script, state, thread),
     ) {
         (Some(course), Some(command)) => {
-            let task = task_of_command(alloc, script, state, course, command)?;
+            let task = task_of_command(alloc, script, state, course, command);
             step_of_task(alloc, script, state, free, course, command, task)
         }
         _ => Ok(Err(Need::NoCommand)),

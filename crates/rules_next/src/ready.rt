@@ -1,12 +1,11 @@
-ghost use Rattle.std.specs.Prelude.{◌≡◌, IfOk};
+ghost use Rattle.std.specs.Prelude.{◌≡◌};
 ghost use Rattle.journal_model.specs.rules.State.{new_buffer};
 ghost use Rattle.journal_model.specs.rules.Ready as words;
 
 use journal_model::{Buffer, Command, Script, State};
-use rules_state::{buffer_in, dead_buffer, named};
+use rules_state::{buffer_in, named};
 use state_words::{is_filled, is_in_place};
-use std::alloc::Global;
-use ttm_base::{BufId, NoMemory};
+use ttm_base::BufId;
 
 /// Returns whether buffer `b` is in place and filled. `dead`, the buffer without pages, stands for one that isn't live.
 fn is_ready(script: &Script, state: &State, command: &Command, b: BufId, dead: &Buffer) -> bool
@@ -17,21 +16,19 @@ fn is_ready(script: &Script, state: &State, command: &Command, b: BufId, dead: &
     is_in_place(script, command, b, buffer) && is_filled(command, buffer)
 }
 
-/// Returns the named buffer at work: the first that isn't ready, or `None` if each is.
+/// Returns the named buffer at work: the first that isn't ready, or `None` if each is. `dead`, the buffer without pages, stands for one
+/// that isn't live.
 pub fn first_unready(
-    alloc: Global,
     script: &Script,
     state: &State,
     command: &Command,
-) -> Result<Option<BufId>, NoMemory>
-    ensures { IfOk result (λ found. found ≡ words.first_unready script.now state.now command.now) }
+    dead: &Buffer,
+) -> Option<BufId>
+    requires { dead.now ≡ new_buffer 0 }
+    ensures { result ≡ words.first_unready script.now state.now command.now }
 {
-    let bs = named(alloc, command)?;
-    let dead = dead_buffer(alloc);
-    let unready = bs
-        .items()
+    named(command)
         .iter()
         .copied()
-        .find(|b| !is_ready(script, state, command, *b, &dead));
-    Ok(unready)
+        .find(|b| !is_ready(script, state, command, *b, dead))
 }

@@ -1,4 +1,4 @@
-ghost use Rattle.std.specs.Prelude.{◌≡◌, IfOk, find, not};
+ghost use Rattle.std.specs.Prelude.{◌≡◌, find, not};
 ghost use Rattle.journal_model.specs.rules.State.{new_buffer, has_buffer};
 ghost use Rattle.journal_model.specs.rules.Tasks as words;
 
@@ -9,7 +9,7 @@ use state_words::is_in_place;
 use state_words::tasks::{gives_back, last_caught, starts, task_of_misplaced, task_of_victim};
 use std::alloc::Global;
 use ttm_base::limits::MAX_PINS;
-use ttm_base::{BufId, Deny, NoMemory};
+use ttm_base::{BufId, Deny};
 
 /// Returns the first buffer of `bs` that isn't among `held`.
 fn first_unheld(held: &[BufId], bs: &[BufId]) -> Option<BufId>
@@ -19,21 +19,14 @@ fn first_unheld(held: &[BufId], bs: &[BufId]) -> Option<BufId>
 }
 
 /// Returns the next buffer to reserve: that of the last backoff first, then the named ones. `None` if all are held.
-pub fn first_missing(
-    alloc: Global,
-    course: &Course,
-    command: &Command,
-) -> Result<Option<BufId>, NoMemory>
-    ensures { IfOk result (λ found. found ≡ words.first_missing course.now command.now) }
+pub fn first_missing(course: &Course, command: &Command) -> Option<BufId>
+    ensures { result ≡ words.first_missing course.now command.now }
 {
     let held = course.held.items();
-    if let Some(b) = course.first {
-        if !has_buffer(held, b) {
-            return Ok(Some(b));
-        }
+    match course.first {
+        Some(b) if !has_buffer(held, b) => Some(b),
+        _ => first_unheld(held, named(command)),
     }
-    let bs = named(alloc, command)?;
-    Ok(first_unheld(held, bs.items()))
 }
 
 /// Returns why `command` is denied for the pins of its buffer, or `None` if it isn't.
@@ -59,14 +52,13 @@ fn task_of_failed(
     state: &State,
     command: &Command,
     deny: Deny,
-) -> Result<Task, NoMemory>
-    ensures { IfOk result (λ task. task ≡ words.task_of_failed script.now state.now command.now deny) }
+) -> Task
+    ensures { result ≡ words.task_of_failed script.now state.now command.now deny }
 {
-    let unready = first_unready(alloc, script, state, command)?;
     let dead = dead_buffer(alloc);
-    match unready {
-        Some(b) if gives_back(buffer_in(&state.core, b, &dead)) => Ok(Task::GiveBack(b)),
-        _ => Ok(Task::GiveUp(deny)),
+    match first_unready(script, state, command, &dead) {
+        Some(b) if gives_back(buffer_in(&state.core, b, &dead)) => Task::GiveBack(b),
+        _ => Task::GiveUp(deny),
     }
 }
 
@@ -96,20 +88,19 @@ fn task_of_held(
     state: &State,
     course: &Course,
     command: &Command,
-) -> Result<Task, NoMemory>
-    ensures { IfOk result (λ task. task ≡ words.task_of_held script.now state.now course.now command.now) }
+) -> Task
+    ensures { result ≡ words.task_of_held script.now state.now course.now command.now }
 {
     if let Some(deny) = forbidden(state, command) {
-        return Ok(Task::Refuse(deny));
+        return Task::Refuse(deny);
     }
     if let Some(deny) = course.fail {
         return task_of_failed(alloc, script, state, command, deny);
     }
-    let unready = first_unready(alloc, script, state, command)?;
     let dead = dead_buffer(alloc);
-    match unready {
-        Some(b) => Ok(task_of_unready(script, state, command, b, &dead)),
-        None => Ok(Task::Act),
+    match first_unready(script, state, command, &dead) {
+        Some(b) => task_of_unready(script, state, command, b, &dead),
+        None => Task::Act,
     }
 }
 
@@ -120,21 +111,21 @@ pub fn task_of_command(
     state: &State,
     course: &Course,
     command: &Command,
-) -> Result<Task, NoMemory>
-    ensures { IfOk result (λ task. task ≡ words.task_of_command script.now state.now course.now command.now) }
+) -> Task
+    ensures { result ≡ words.task_of_command script.now state.now course.now command.now }
 {
     if course.made {
-        return Ok(Task::Answer);
+        return Task::Answer;
     }
     if starts(course, command) {
-        return Ok(Task::Start);
+        return Task::Start;
     }
-    if let Some(b) = first_missing(alloc, course, command)? {
-        return Ok(Task::Lock(b));
+    if let Some(b) = first_missing(course, command) {
+        return Task::Lock(b);
     }
     let dead = dead_buffer(alloc);
     match last_caught(course.caught.items()) {
-        Some(v) => Ok(task_of_victim(v, buffer_in(&state.core, v.b, &dead))),
+        Some(v) => task_of_victim(v, buffer_in(&state.core, v.b, &dead)),
         None => task_of_held(alloc, script, state, course, command),
     }
 }

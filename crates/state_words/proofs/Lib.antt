@@ -1,4 +1,3 @@
-pub mod Mentions
 pub mod PageLaws
 pub mod ListSteps
 pub mod ListLaws

@@ -5,20 +5,6 @@ use journal_model::{BufIds, Commands, Course, Courses, Targets, Victims};
 use std::alloc::Global;
 use ttm_base::{BufId, Mem, NoMemory, Spans};
 
-/// Returns whether `a` and `b` are the same buffer.
-pub fn same_buffer(a: BufId, b: BufId) -> bool
-    ensures { result ≡ words.same_buffer a b }
-{
-    a.0 == b.0
-}
-
-/// Returns whether the buffer `b` is in the list.
-pub fn has_buffer(bs: &[BufId], b: BufId) -> bool
-    ensures { result ≡ words.has_buffer bs.now b }
-{
-    bs.iter().any(|c| same_buffer(b, *c))
-}
-
 /// Returns the spans that were found for a buffer in the memory type `mem`, if there are any.
 pub fn target_of(mem: Mem, targets: &Targets) -> Option<&Spans>
     ensures { option_copied result ≡ words.target_of mem targets.now }

@@ -1,12 +1,11 @@
-ghost use Rattle.std.specs.Prelude.{◌≡◌, ◌∷◌, [], IfOk, flat_map, option_copied};
+ghost use Rattle.std.specs.Prelude.{◌≡◌, option_copied};
 ghost use Rattle.journal_model.specs.rules.ApplyCommands as rows;
 ghost use Rattle.journal_model.specs.rules.ApplyJobs as jobs;
 ghost use Rattle.journal_model.specs.rules.Commands as words;
 
-use crate::buffers::{has_buffer, same_buffer};
-use journal_model::{BufIds, Command, Script};
-use std::alloc::Global;
-use ttm_base::{BufId, FlaggedPlace, Mem, NoMemory, Op, Place};
+use journal_model::{Command, Script, same_buffer};
+use std::slice::from_ref;
+use ttm_base::{BufId, FlaggedPlace, Mem, Op, Place};
 
 /// Returns the size of a buffer in pages, as it is declared.
 pub fn declared_pages(script: &Script, b: BufId) -> u32
@@ -71,24 +70,6 @@ pub fn commands_of(script: &Script, thread: u32) -> &[Command]
     }
 }
 
-/// Returns the buffers of operations in the order of their mentions, each as often as it is mentioned.
-fn mentions(alloc: Global, ops: &[Op]) -> Result<BufIds, NoMemory>
-    ensures { IfOk result (λ bs. bs ≡ flat_map words.buffers_of_op ops.now) }
-{
-    let mut bs = BufIds::new(alloc);
-    for op in ops {
-        match op {
-            Op::Fill { dst, .. } => bs.push(*dst)?,
-            Op::Copy { dst, src, .. } | Op::Xor { dst, src, .. } => {
-                bs.push(*dst)?;
-                bs.push(*src)?;
-            }
-            Op::Probe { src, .. } => bs.push(*src)?,
-        }
-    }
-    Ok(bs)
-}
-
 /// Returns whether the operation writes the buffer `b`.
 pub fn writes(b: BufId, op: &Op) -> bool
     ensures { result ≡ words.writes b op.now }
@@ -99,55 +80,28 @@ pub fn writes(b: BufId, op: &Op) -> bool
     }
 }
 
-/// Returns each buffer of a list once, in the order of first mention.
-pub fn first_mentions(alloc: Global, bs: &[BufId]) -> Result<BufIds, NoMemory>
-    ensures { IfOk result (λ firsts. firsts ≡ words.first_mentions [] bs.now) }
-{
-    let mut firsts = BufIds::new(alloc);
-    for b in bs {
-        if !has_buffer(firsts.items(), *b) {
-            firsts.push(*b)?;
-        }
-    }
-    Ok(firsts)
-}
-
-/// Returns a list of the buffer `b` alone.
-fn only(alloc: Global, b: BufId) -> Result<BufIds, NoMemory>
-    ensures { IfOk result (λ bs. bs ≡ b ∷ []) }
-{
-    let mut bs = BufIds::new(alloc);
-    bs.push(b)?;
-    Ok(bs)
-}
-
-/// Returns the buffers that a command names.
-pub fn named(alloc: Global, command: &Command) -> Result<BufIds, NoMemory>
-    ensures { IfOk result (λ bs. bs ≡ words.named command.now) }
+/// Lends the buffers that a command names, each once, in the order of the first mention. Takes constant time.
+pub fn named(command: &Command) -> &[BufId]
+    ensures { result.now ≡ words.named command.now }
 {
     match command {
         Command::New { b } | Command::Free { b } | Command::Pin { b } | Command::Unpin { b } => {
-            only(alloc, *b)
+            from_ref(b)
         }
-        Command::Find { b } | Command::SwapOut { b } => only(alloc, *b),
-        Command::Write { b, .. } | Command::Read { b, .. } | Command::Move { b, .. } => {
-            only(alloc, *b)
-        }
-        Command::Touch { .. } => Ok(BufIds::new(alloc)),
-        Command::Submit { ops, .. } => {
-            let bs = mentions(alloc, ops.items())?;
-            first_mentions(alloc, bs.items())
-        }
+        Command::Find { b } | Command::SwapOut { b } => from_ref(b),
+        Command::Write { b, .. } | Command::Read { b, .. } | Command::Move { b, .. } => from_ref(b),
+        Command::Touch { .. } => &[],
+        Command::Submit { ops, .. } => ops.named(),
     }
 }
 
-/// Returns the buffers that `command` names, or none where there is no command.
-pub fn named_in(alloc: Global, command: Option<&Command>) -> Result<BufIds, NoMemory>
-    ensures { IfOk result (λ bs. bs ≡ rows.named_in (option_copied command.entry)) }
+/// Lends the buffers that `command` names, or none where there is no command.
+pub fn named_in(command: Option<&Command>) -> &[BufId]
+    ensures { result.now ≡ rows.named_in (option_copied command.entry) }
 {
     match command {
-        Some(command) => named(alloc, command),
-        None => Ok(BufIds::new(alloc)),
+        Some(command) => named(command),
+        None => &[],
     }
 }
 

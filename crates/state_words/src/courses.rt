@@ -5,8 +5,7 @@ ghost use Rattle.journal_model.specs.rules.PageSteps as steps;
 ghost use Rattle.journal_model.specs.rules.ApplyPages.{search_over};
 ghost use Rattle.journal_model.specs.rules.ApplyVictims.{failed_if, with_fail, no_longer_caught, with_victim, with_skip, forces, gone_dry};
 
-use crate::buffers::same_buffer;
-use journal_model::{Course, Victim, Victims, Why};
+use journal_model::{Course, Victim, Victims, Why, same_buffer};
 use ttm_base::{BufId, Deny, NoMemory};
 
 /// Returns whether the buffer `b` is a victim of this thread.

@@ -15,12 +15,13 @@ pub mod tasks;
 mod uses;
 mod victims;
 
-pub use buffers::{first_courses, has_buffer, new_course, same_buffer, set_target, target_of};
+pub use buffers::{first_courses, new_course, set_target, target_of};
 pub use commands::{
     as_fallback, commands_of, declared_align, declared_group, declared_pages, declared_places,
-    declared_prio, first_mentions, named, named_in, ops_of, unflagged, whole, writes,
+    declared_prio, named, named_in, ops_of, unflagged, whole, writes,
 };
 pub use courses::is_caught;
+pub use journal_model::{has_buffer, same_buffer};
 pub use place_list::places::compatible;
 pub use place_list::spans::{intersects, length_of, same_mem};
 pub use placement::{reach_of, size_of};

@@ -4,7 +4,8 @@ use Rattle.journal_model.specs.Types.{BufId, Command, Decl, FlaggedPlace, Mem, O
 use Rattle.ttm_base.specs.declared.Op.TheVariants as op
 use Rattle.ttm_base.specs.declared.Mem.TheVariants.{System}
 use Rattle.journal_model.specs.declared.script.Command.TheVariants as command
-use Rattle.journal_model.specs.rules.State.{course_of, has_buffer, same_buffer}
+use Rattle.journal_model.specs.rules.State.{course_of, same_buffer}
+pub use Rattle.journal_model.specs.rules.Mentions.{buffers_of_op, first_mentions}
 
 -- stands for a declaration that isn't there; no script names a buffer without one
 abbrev pub undeclared : Decl
@@ -24,24 +25,12 @@ command_at_work script s thread = option_and_then (λ c. slice_get (commands_of 
 
 -- ---- what it names
 
--- the buffers of an operation, as they are mentioned
-abbrev pub buffers_of_op : Op → List BufId
-buffers_of_op (op.Fill dst off len byte) = dst ∷ []
-buffers_of_op (op.Copy dst doff src soff len) = dst ∷ src ∷ []
-buffers_of_op (op.Xor dst doff src soff len) = dst ∷ src ∷ []
-buffers_of_op (op.Probe src off len) = src ∷ []
-
 -- an operation writes a buffer
 abbrev pub writes : BufId → Op → Bool
 writes b (op.Fill dst off len byte) = same_buffer b dst
 writes b (op.Copy dst doff src soff len) = same_buffer b dst
 writes b (op.Xor dst doff src soff len) = same_buffer b dst
 writes b (op.Probe src off len) = false
-
--- each buffer once, in the order of its first mention, without those in `seen`
-abbrev pub first_mentions : List BufId → List BufId → List BufId
-first_mentions seen [] = []
-first_mentions seen (b ∷ bs) = if has_buffer seen b then first_mentions seen bs else b ∷ first_mentions (b ∷ seen) bs
 
 -- the buffers that a command names
 abbrev pub named : Command → List BufId

@@ -1,13 +1,9 @@
 -- What tasks depend on, as the table of buffers tells it.
-use Rattle.std.specs.Prelude.{◌≡◌, Bool, true, false, not, List, [], Option, Some, None, length, slice_index_or}
+use Rattle.std.specs.Prelude.{◌≡◌, [], Option, Some, None, length}
 use Rattle.bo_table.specs.declared.bo.Bo.{Bo}
 use Rattle.bo_table.specs.Seen.{Bos}
-use Rattle.ttm_base.specs.declared.BufId.{BufId}
-use Rattle.journal_model.specs.declared.script.Script.{Script}
-use Rattle.journal_model.specs.declared.script.Command.{Command}
 use Rattle.journal_model.specs.declared.state.Buffer.{Buffer}
 use Rattle.journal_model.specs.declared.state.State.{State}
-use Rattle.journal_model.specs.rules.Ready.{is_ready}
 use Rattle.journal_model.specs.rules.State.{new_buffer}
 use Rattle.room_representation.specs.steps.Lent.{as_buffer}
 
@@ -28,14 +24,6 @@ seen t =
 abbrev pub standing : Option Bo → Buffer
 standing None = new_buffer 0
 standing (Some bo) = as_buffer bo
-
--- the command's buffer `b` isn't in place, or isn't filled
-unfoldable pub is_unready : Script → Bos → Command → BufId → Bool
-is_unready script t cmd b = not (is_ready script (seen t) cmd b)
-
--- each buffer that `known` marks, at the place of its number, is ready
-abbrev pub AreReady : Script → Bos → Command → List Bool → Type 0
-AreReady script t cmd known = (b : BufId) → slice_index_or known b.0 false ≡ true → is_unready script t cmd b ≡ false
 
 -- each buffer of the table has a reservation
 abbrev pub HasReservations : Bos → Type 0

@@ -34,8 +34,8 @@ fn command_of<'a>(script: &'a Script, course: &Course, thread: u32) -> Option<&'
     commands_of(script, thread).get(course.answered as usize)
 }
 
-/// Returns the first buffer named by `command` that isn't ready: the one at work. Takes time by the command's operations, and by the spans and
-/// places of each buffer that they name, once however many of them name it.
+/// Returns the first buffer named by `command` that isn't ready: the one at work. Takes time by the spans and places of each buffer that it
+/// names.
 pub fn first_unready(
     parts: &Parts,
     script: &Script,
@@ -69,8 +69,8 @@ pub fn gives_back(parts: &Parts, script: &Script, before: &[Entry], b: BufId) ->
     tasks::gives_back(&live(&parts.bos, b))
 }
 
-/// Returns what `thread` has to do next, which is nothing where there is no such thread. Takes time by the operations of its command and the buffers
-/// that it holds, and by the spans and places of each buffer that they name, once however many of them name it.
+/// Returns what `thread` has to do next, which is nothing where there is no such thread. Takes time by the buffers that it
+/// holds, and by the spans and places of each buffer that its command names.
 pub fn task_of(parts: &Parts, script: &Script, before: &[Entry], thread: u32) -> Task
     requires { AreHeld script.now before.now parts.now }
     ensures { result ≡ words.task_of script.now (state_of script.now before.now) thread }

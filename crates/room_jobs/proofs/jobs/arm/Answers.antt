@@ -6,7 +6,7 @@ pub command_at_work-command-requires : goal.command_at_work-command-requires
 command_at_work-command-requires g c = arm_there c.args.script.now g.w.before c.args.parts.now g.w.entry c.args.thread c.args.engine c.args.num c.requires.0 c.requires.1.0 c.requires.1.1
 
 pub waits_at-requires-clause-declared : goal.waits_at-requires-clause-declared
-waits_at-requires-clause-declared g c = arm_declared c.args.script.now g.w.before c.args.parts.now g.w.entry c.args.thread c.args.engine c.args.num c.requires.0 c.requires.1.0 c.requires.1.1 _ _ c.command_at_work-command.ensures (c.items-bs.ensures ∙ c.in_ok-named.ensures)
+waits_at-requires-clause-declared g c = arm_declared c.args.script.now g.w.before c.args.parts.now g.w.entry c.args.thread c.args.engine c.args.num c.requires.0 c.requires.1.0 c.requires.1.1 _ _ c.command_at_work-command.ensures c.named_in-bs.ensures
 
 pub waits_at-requires-clause-wide : goal.waits_at-requires-clause-wide
 waits_at-requires-clause-wide g c = arm_wide c.args.script.now g.w.before c.args.parts.now g.w.entry c.args.thread c.args.engine c.args.num c.requires.0 c.requires.1.0 c.requires.1.1 _ c.contexts.ensures
@@ -18,7 +18,7 @@ pub push-requires-clause-num : goal.push-requires-clause-num
 push-requires-clause-num g c = arm_num c.args.script.now g.w.before c.args.parts.now g.w.entry c.args.thread c.args.engine c.args.num c.requires.0 c.requires.1.0 c.requires.1.1
 
 pub push-requires-clause-waits : goal.push-requires-clause-waits
-push-requires-clause-waits g c = arm_waits c.args.script.now g.w.before c.args.parts.now g.w.entry c.args.thread c.args.engine c.args.num c.requires.0 c.requires.1.0 c.requires.1.1 _ _ _ _ _ c.command_at_work-command.ensures c.ops_of-ops.ensures (c.items-bs.ensures ∙ c.in_ok-named.ensures) c.contexts.ensures c.in_ok-waits.ensures
+push-requires-clause-waits g c = arm_waits c.args.script.now g.w.before c.args.parts.now g.w.entry c.args.thread c.args.engine c.args.num c.requires.0 c.requires.1.0 c.requires.1.1 _ _ _ _ _ c.command_at_work-command.ensures c.ops_of-ops.ensures c.named_in-bs.ensures c.contexts.ensures c.in_ok-waits.ensures
 
 pub push-requires-clause-few : goal.push-requires-clause-few
 push-requires-clause-few g c = arm_few c.args.script.now g.w.before c.args.parts.now g.w.entry c.args.thread c.args.engine c.args.num c.requires.0 c.requires.1.0 c.requires.1.1 _ _ _ c.command_at_work-command.ensures c.ops_of-ops.ensures c.in_ok-packets.ensures
@@ -40,5 +40,5 @@ has_made-requires g c = arm_there c.args.script.now g.w.before c.args.parts.now 
 
 pub returns-clause-ok : goal.returns-clause-ok
 returns-clause-ok g c =
-    arm_held c.args.script.now g.w.before c.args.parts.now g.w.entry c.args.thread c.args.engine c.args.num c.requires.0 c.requires.1.0 c.requires.1.1 _ _ _ _ _ _ c.push.new.self c.emit-emitted.new.self c.add_uses.new.bos c.has_made.new.courses c.command_at_work-command.ensures c.ops_of-ops.ensures (c.items-bs.ensures ∙ c.in_ok-named.ensures) c.contexts.ensures c.in_ok-waits.ensures c.in_ok-packets.ensures
+    arm_held c.args.script.now g.w.before c.args.parts.now g.w.entry c.args.thread c.args.engine c.args.num c.requires.0 c.requires.1.0 c.requires.1.1 _ _ _ _ _ _ c.push.new.self c.emit-emitted.new.self c.add_uses.new.bos c.has_made.new.courses c.command_at_work-command.ensures c.ops_of-ops.ensures c.named_in-bs.ensures c.contexts.ensures c.in_ok-waits.ensures c.in_ok-packets.ensures
     c.in_ok-push.ensures.ok c.emit-emitted.ensures.after c.add_uses.ensures c.has_made.ensures
