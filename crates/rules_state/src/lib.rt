@@ -21,8 +21,8 @@ pub use place_searches::{PlaceSearch, place_search_at_work, place_search_for};
 pub use places::{frames_of, loc_of, packet_place};
 pub use state_words::{
     Standing, as_fallback, cause_of, commands_of, declared_align, declared_group, declared_pages,
-    declared_places, declared_prio, filled_by, first_mentions, frame_of, has_buffer,
-    has_some_target, is_caught, is_frame, is_long_enough, is_loose, name_in_spans, named,
-    new_course, ops_of, page_at, page_of_spans, reach_of, same_buffer, size_of, slot_of, target_of,
-    target_to_untake, unflagged, unless_waiting, whole, why_of, writes,
+    declared_places, declared_prio, filled_by, frame_of, has_buffer, has_some_target, is_caught,
+    is_frame, is_long_enough, is_loose, name_in_spans, named, new_course, ops_of, page_at,
+    page_of_spans, reach_of, same_buffer, size_of, slot_of, target_of, target_to_untake, unflagged,
+    unless_waiting, whole, why_of, writes,
 };

@@ -1,9 +1,8 @@
 use crate::making::{buffer_of, core_of, ensure, job_of, list, one, script_of, state_of};
-use journal_model::{Buffer, Command, Core, Course, Ghost, JobIds, Jobs, Script, State};
+use journal_model::{Buffer, Command, Core, Course, Ghost, JobIds, Jobs, Ops, Script, State};
 use rules_holds::{free_frame, free_slot, held_spans, jobs_before_use, packets_of};
 use rules_state::{
-    asked_places, first_mentions, frames_of, in_order, named, new_course, place_search_at_work,
-    without_buffer,
+    asked_places, frames_of, in_order, named, new_course, place_search_at_work, without_buffer,
 };
 use std::alloc::Global;
 use std::process::Abort;
@@ -82,6 +81,40 @@ fn is_job(rt: &impl Abort, jobs: &JobIds) {
     ensure(rt, jobs.runs().len() == 1);
 }
 
+/// Operations that mention B, A and B, and then A.
+const OPS: &[Op] = &[
+    Op::Copy {
+        dst: B,
+        doff: 0,
+        src: A,
+        soff: 0,
+        len: 1,
+    },
+    Op::Fill {
+        dst: B,
+        off: 0,
+        len: 1,
+        byte: 1,
+    },
+    Op::Probe {
+        src: A,
+        off: 0,
+        len: 1,
+    },
+];
+
+/// Makes a job of engine 1.
+fn job_of_ops(rt: &impl Abort, alloc: Global, ops: &[Op]) -> Command {
+    let mut job = Ops::new(alloc);
+    for op in ops {
+        job.push(*op).expect(rt, "memory");
+    }
+    Command::Submit {
+        engine: 1,
+        ops: job,
+    }
+}
+
 /// Two buffers, of which the first stands twice.
 const NAMED: &[BufId] = &[A, B, A];
 
@@ -90,8 +123,8 @@ fn buffers_pages_and_places_of_commands(rt: HostRuntime) {
     let rt = &rt;
     let alloc = rt.alloc();
     are(rt, without_buffer(alloc, NAMED, A), &[B]);
-    are(rt, first_mentions(alloc, &[B, A, B]), &[B, A]);
-    are(rt, named(alloc, &Command::Pin { b: B }), &[B]);
+    ensure(rt, named(&Command::Pin { b: B }) == &[B]);
+    ensure(rt, named(&job_of_ops(rt, alloc, OPS)) == &[B, A]);
     let buffer = read_buffer(rt, alloc);
     are(rt, frames_of(alloc, &buffer), &[0]);
     let script = script_of(rt, alloc, SCRIPT);
