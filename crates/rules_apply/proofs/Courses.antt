@@ -41,14 +41,14 @@ set_is : (s : State) (courses : List Course) (t : ℕ) (x : Course) → IsThread
 set_is s courses t x there = sym (ap (λ q. if q then courses else slice_set courses (t - 1) x) (number_is s t there))
 
 -- a job that was armed
-pub after_arm_is : (script : Script) (s : State) (t : ℕ) (job : JobId) (cmd : Option Command) (ops : List Op) (bs used : List BufId) (core : Core) (last_jobs : List ℕ) (x : Course) →
-    IsThread s t → cmd ≡ command_at_work script s t → ops ≡ ops_of cmd → bs ≡ named_in cmd → used ≡ bs → core ≡ core_after_arm s.core job ops used →
+pub after_arm_is : (script : Script) (s : State) (t : ℕ) (job : JobId) (cmd : Option Command) (ops : List Op) (bs : List BufId) (core : Core) (last_jobs : List ℕ) (x : Course) →
+    IsThread s t → cmd ≡ command_at_work script s t → ops ≡ ops_of cmd → bs ≡ named_in cmd → core ≡ core_after_arm s.core job ops bs →
     last_jobs ≡ slice_set s.last_jobs job.ctx job.num → slice_get s.courses (t - 1) ≡ Some x →
     record s { core = core; last_jobs = last_jobs; courses = slice_set s.courses (t - 1) (has_made x) } ≡ after_arm script s t job.ctx job.num
-after_arm_is script s t job cmd ops bs used core last_jobs x there m o b u k l e =
+after_arm_is script s t job cmd ops bs core last_jobs x there m o b k l e =
     let y : x ≡ course s t = course_is s t x there e in
     let set : slice_set s.courses (t - 1) (has_made x) ≡ with_course s.courses t (has_made x) = set_is s s.courses t (has_made x) there in
-    rw (set, k, l, u, b, o, m, y)
+    rw (set, k, l, b, o, m, y)
 
 -- a command that was answered
 pub after_result_is : (script : Script) (s : State) (t : ℕ) (cmd : Option Command) (x next : Course) (held touching : List BufId) (reservations read : List Reservation) (buffers : List (Option Buffer)) (old lists : List (List BufId)) (courses : List Course) →
