@@ -1,9 +1,11 @@
 -- The spans that a span manager holds are those of the owners.
-use Rattle.std.specs.Prelude.{◌≡◌, ℕ, ◌+◌, ◌≤◌, List, [], ◌∷◌, if◌then◌else◌}
+use Rattle.std.specs.Prelude.{◌≡◌, ℕ, ◌+◌, ◌≤◌, List, [], ◌∷◌, Option, Some, None, if◌then◌else◌}
 use Rattle.ttm_base.specs.declared.Span.{Span}
+use Rattle.ttm_base.specs.declared.Place.{Place}
 use Rattle.ttm_base.specs.Holes.{has_page}
 use Rattle.buddy_manager.specs.Held.{same_span, AllBy, IsApart}
 use Rattle.resource_core.specs.declared.holding.Holding.{Holding}
+use Rattle.resource_core.specs.declared.room.Request.{Request}
 use Rattle.resource_core.specs.Resources.{all_spans, AreDistinct, HaveSpans}
 
 -- the sum of the weights of spans
@@ -31,3 +33,8 @@ pub record IsTied (size most : ℕ) (spans : List Span) (held : List Holding) : 
   pub same : HaveSame spans (all_spans held)
   pub owners : AreDistinct held
   pub some : HaveSpans held
+
+-- the choice finds nothing for the request, if there is one
+abbrev pub FindsNoRoom : (ℕ → ℕ → Place → Option (List Span)) → Option Request → Type 0
+FindsNoRoom choice None = Unit {0}
+FindsNoRoom choice (Some r) = choice r.pages r.align r.place ≡ None

@@ -102,25 +102,54 @@ pub trait SpanManager: Drop {
     ghost takes_free: { (free : ℕ → Bool) (size pages align : ℕ) (place : Place) (out : List Span) → size ≤ most → 1 ≤ pages → 1 ≤ align → choice free size pages align place ≡ Some out → AreTaken free size out };
 }
 
+/// What is asked of the choice.
+#[derive(Clone, Copy, PartialEq, Eq)]
+struct Request {
+    pages: u32,
+    align: u32,
+    place: Place,
+}
+
 /// The pages of a memory type, by the owners that hold them, in the spans of a span manager.
 #[derive(Drop)]
 pub struct Room<M: SpanManager> {
     manager: M,
     held: Holdings,
     move_fence: Option<JobId>,
+    /// The last request that found no room, so that it isn't searched again while nothing is taken or given back.
+    in_vain: Option<Request>,
 }
 
 impl<M: SpanManager> Model for Room<M> {
     ghost use Rattle.std.specs.Prelude.{◌≤◌};
+    ghost use Rattle.ttm_base.specs.Holes.{is_free_beside};
     ghost use Rattle.resource_core.specs.Resources.{Resources};
 
     ghost Value = { Resources };
 
-    ghost use Rattle.resource_core.specs.Tied.{IsTied};
+    ghost use Rattle.resource_core.specs.Tied.{IsTied, FindsNoRoom};
 
     ghost view = { λ r. record { size = M.size r.manager; held = r.held; move_fence = r.move_fence } };
 
-    ghost invariant = { λ r. IsTied (M.size r.manager) M.most (M.held r.manager) r.held };
+    ghost invariant = { λ r. (IsTied (M.size r.manager) M.most (M.held r.manager) r.held) × (FindsNoRoom (M.choice (is_free_beside (M.held r.manager)) (M.size r.manager)) r.in_vain) };
+}
+
+/// Returns whether the request is the one that is kept.
+fn is_kept(kept: Option<Request>, request: Request) -> bool
+    ensures { result ≡ true → kept ≡ Some request }
+{
+    kept == Some(request)
+}
+
+/// Returns the request to keep after a fault: this one if it found no room, otherwise the one before.
+fn noted(kept: Option<Request>, request: Request, fault: TakeFault) -> Option<Request>
+    ensures room { fault ≡ TakeFault.NoRoom → result ≡ Some request }
+    ensures memory { fault ≡ TakeFault.NoMemory → result ≡ kept }
+{
+    match fault {
+        TakeFault::NoRoom => Some(request),
+        TakeFault::NoMemory => kept,
+    }
 }
 
 /// Adds a holding with a copy of spans. Where memory is refused nothing is changed.
@@ -143,6 +172,7 @@ impl<M: SpanManager> Room<M> {
             manager,
             held: Holdings::new(alloc),
             move_fence: None,
+            in_vain: None,
         })
     }
 }
@@ -160,8 +190,20 @@ impl<M: SpanManager> Manager for Room<M> {
         align: u32,
         place: &Place,
     ) -> Result<Spans, TakeFault> {
+        let request = Request {
+            pages,
+            align,
+            place: *place,
+        };
+        if is_kept(self.in_vain, request) {
+            return Err(TakeFault::NoRoom);
+        }
         let mut spans = Spans::new(alloc);
-        self.manager.take(pages, align, place, &mut spans)?;
+        if let Err(fault) = self.manager.take(pages, align, place, &mut spans) {
+            self.in_vain = noted(self.in_vain, request, fault);
+            return Err(fault);
+        }
+        self.in_vain = None;
         match add_copy(&mut self.held, owner, &spans) {
             Ok(()) => Ok(spans),
             Err(NoMemory) => {
@@ -173,6 +215,7 @@ impl<M: SpanManager> Manager for Room<M> {
 
     fn hold(&mut self, owner: Owner, spans: &Spans) -> Result<(), NoMemory> {
         self.manager.hold(spans)?;
+        self.in_vain = None;
         match add_copy(&mut self.held, owner, spans) {
             Ok(()) => Ok(()),
             Err(NoMemory) => {
@@ -189,8 +232,19 @@ impl<M: SpanManager> Manager for Room<M> {
         align: u32,
         place: &Place,
     ) -> Result<Spans, TakeFault> {
+        let request = Request {
+            pages,
+            align,
+            place: *place,
+        };
+        if is_kept(self.in_vain, request) {
+            return Err(TakeFault::NoRoom);
+        }
         let mut spans = Spans::new(alloc);
-        self.manager.choose(pages, align, place, &mut spans)?;
+        if let Err(fault) = self.manager.choose(pages, align, place, &mut spans) {
+            self.in_vain = noted(self.in_vain, request, fault);
+            return Err(fault);
+        }
         Ok(spans)
     }
 
@@ -199,6 +253,7 @@ impl<M: SpanManager> Manager for Room<M> {
     }
 
     fn give(&mut self, owner: Owner) {
+        self.in_vain = None;
         let spans = self.held.remove(owner);
         self.manager.put_back(&spans);
     }

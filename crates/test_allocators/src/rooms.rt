@@ -284,6 +284,60 @@ fn range_room_answers(rt: HostRuntime) {
     ends_with(&rt, rt.alloc(), room, RANGES, RANGES_HELD);
 }
 
+/// Calls on 8 pages of ranges, where a request that found no room is asked again before and after pages are free.
+const ASKED_AGAIN: &[Step] = &[
+    Step::Take(
+        Owner::Live(BufId(0)),
+        4,
+        PLAIN,
+        &[Span { start: 0, end: 4 }],
+    ),
+    Step::Take(
+        Owner::Live(BufId(1)),
+        2,
+        PLAIN,
+        &[Span { start: 4, end: 6 }],
+    ),
+    Step::Take(Owner::Live(BufId(2)), 3, PLAIN, &[]),
+    Step::Take(Owner::Live(BufId(2)), 3, PLAIN, &[]),
+    Step::Choose(3, PLAIN, &[]),
+    Step::Choose(2, PLAIN, &[Span { start: 6, end: 8 }]),
+    Step::Choose(3, TOPDOWN, &[]),
+    Step::Pass(Owner::Live(BufId(1)), Owner::Ghost(1)),
+    Step::Choose(3, TOPDOWN, &[]),
+    Step::Give(Owner::Ghost(1)),
+    Step::Choose(3, TOPDOWN, &[Span { start: 5, end: 8 }]),
+    Step::Hold(
+        Owner::Live(BufId(2)),
+        3,
+        PLAIN,
+        &[Span { start: 4, end: 7 }],
+    ),
+    Step::Choose(3, PLAIN, &[]),
+    Step::Choose(3, PLAIN, &[]),
+    Step::Give(Owner::Live(BufId(0))),
+    Step::Take(
+        Owner::Live(BufId(3)),
+        3,
+        PLAIN,
+        &[Span { start: 0, end: 3 }],
+    ),
+];
+
+/// The numbers of pages after `ASKED_AGAIN`.
+const ASKED_AGAIN_HELD: Lengths = Lengths {
+    free: 2,
+    live: 6,
+    targets: 0,
+    ghosts: 0,
+};
+
+#[test]
+fn a_request_in_vain_is_asked_again(rt: HostRuntime) {
+    let room = RangeRoom::new(rt.alloc(), 8);
+    ends_with(&rt, rt.alloc(), room, ASKED_AGAIN, ASKED_AGAIN_HELD);
+}
+
 /// Calls on 12 pages of VRAM in ranges.
 const VRAM_RANGES: &[Step] = &[
     Step::Take(
