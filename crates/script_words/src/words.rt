@@ -56,6 +56,12 @@ fn is_decimal_digit(c: u8) -> bool
     b'0' <= c && c <= b'9'
 }
 
+fn are_digits(word: &[u8]) -> bool
+    ensures { result ≡ list_all is_digit word.now }
+{
+    word.iter().all(|c| is_decimal_digit(*c))
+}
+
 fn lacks_leading_zero(word: &[u8]) -> bool
     ensures { result ≡ has_no_leading_zero word.now }
 {
@@ -63,6 +69,13 @@ fn lacks_leading_zero(word: &[u8]) -> bool
         [] => false,
         [c, rest @ ..] => *c != b'0' || rest.len() == 0,
     }
+}
+
+/// Returns whether `word` is a number in plain decimals.
+pub fn is_plain_number(word: &[u8]) -> bool
+    ensures { result ≡ is_plain word.now }
+{
+    lacks_leading_zero(word) && are_digits(word)
 }
 
 /// Returns the number that the digits of `word` tell, or `None` where a byte is no digit. Numbers above 2^40 count as that.
