@@ -1,9 +1,8 @@
 use Rattle.std.specs.Prelude.{◌==◌, ◌||◌, not}
-use Rattle.std.proofs.Common.{◌≡◌, ◌<◌, Bool, true, false, ap, eqb, length, get_or, ◌∙◌, sym, arith}
-use Rattle.std.proofs.lemmas.Bool.Decides.{nat_tests}
+use Rattle.std.proofs.Common.{◌≡◌, ◌<◌, true, false, length, get_or, arith}
 use Rattle.std.proofs.lemmas.Grind.{common_steps}
 use Rattle.journal_model.specs.scripts.FirstFault.{is_shown}
-use Rattle.script_words.proofs.Shown.{len_ends, len_more, last_word, space_shows, no_end, some_end, word_ends, word_goes_on}
+use Rattle.script_words.proofs.Shown.{len_more, space_shows, no_end, word_ends, word_goes_on}
 use Rattle.script_words.proofs.cut.cut_shown_into.Goals as goal
 use Rattle.script_words.proofs.cut.cut_shown_into.Goals.{then-ends_word+in_ok-push+else-text-i-ne32, else-ends_word}
 

@@ -1,4 +1,4 @@
-use Rattle.std.proofs.Common.{◌≡◌, true, min, take, drop}
+use Rattle.std.proofs.Common.{◌≡◌, min, take, drop}
 use Rattle.std.specs.List.{list_all}
 use Rattle.journal_model.specs.scripts.Reading.{is_digit, read_on}
 use Rattle.script_words.proofs.words.value_of.Given as goal
