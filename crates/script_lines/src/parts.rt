@@ -131,20 +131,21 @@ fn is_some_no_actor(actors: &[ActorWord]) -> bool
     actors.iter().any(|a| is_no_actor_word(a))
 }
 
-/// Puts the actor that each of `words` names at the end of `actors`.
+/// Returns the actor that each of `words` names.
 fn read_actors(
-    actors: &mut ActorWords,
+    alloc: Global,
     threads: u32,
     engines: u32,
     words: &[Word],
-) -> Result<(), NoMemory>
-    requires { actors.old ≡ [] }
-    ensures { OnOk result (actors.new ≡ map (actor_of threads engines) words.now) }
+) -> Result<ActorWords, NoMemory>
+    requires { length words.now ≤ 64 }
+    ensures { IfOk result (λ actors. actors ≡ map (actor_of threads engines) words.now) }
 {
-    for word in words {
-        actors.push(actor(threads, engines, word.items()))?;
+    let mut actors = [ActorWord::Malformed; MAX_LINE_ACTORS];
+    for i in 0..words.len() {
+        actors[i] = actor(threads, engines, words[i].items());
     }
-    Ok(())
+    ActorWords::from_slice(alloc, &actors[..words.len()])
 }
 
 fn turn_of(actors: ActorWords) -> Option<Line>
@@ -164,9 +165,10 @@ fn turn(alloc: Global, threads: u32, engines: u32, words: &[Word]) -> Result<Opt
     match words {
         [] => Ok(None),
         [_, rest @ ..] => {
-            let mut actors = ActorWords::new(alloc);
-            read_actors(&mut actors, threads, engines, rest)?;
-            Ok(turn_of(actors))
+            if MAX_LINE_ACTORS < rest.len() {
+                return Ok(None);
+            }
+            Ok(turn_of(read_actors(alloc, threads, engines, rest)?))
         }
     }
 }

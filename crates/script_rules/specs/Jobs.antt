@@ -1,5 +1,5 @@
 -- The rules on the job by name of operations with addresses, by the mappings at its line.
-use Rattle.std.specs.Prelude.{ℕ, Bool, List, [], Option, Some, None, false, ◌||◌, not, nat_lt, length, map, flat_map}
+use Rattle.std.specs.Prelude.{Bool, List, [], Option, Some, None, false, ◌||◌, not, nat_lt, length, map, flat_map}
 use Rattle.std.specs.List.{list_any}
 use Rattle.ttm_base.specs.declared.Op.{Op}
 use Rattle.journal_model.specs.declared.space.VOp.{VOp}

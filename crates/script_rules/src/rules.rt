@@ -18,7 +18,7 @@ use crate::addresses::{
 };
 use crate::script_mappings::ThreadMappings;
 use journal_model::line::{
-    Access, ActorWord, BufferHead, EngineWord, Line, OpWord, PlaceWord, Progress,
+    Access, ActorWord, ActorWords, BufferHead, EngineWord, Line, OpWord, PlaceWord, Progress, Verb,
 };
 use journal_model::{Bytes, Script};
 use script_words::names::Names;
@@ -446,9 +446,17 @@ fn mention_ops(seen: &mut ItemList<BufId>, ops: &[OpWord]) -> Result<(), NoMemor
     Ok(())
 }
 
+/// The number of operations that can't name too many buffers, since each names two at most.
+const FEW_OPS: usize = 8;
+
+/// Returns whether there are too many operations in a job, or too many buffers.
+#[tactic(auto, using(crate::proofs::FewMentions::small_job))]
 fn is_too_big(alloc: Global, ops: &[OpWord]) -> Result<bool, NoMemory>
     ensures { IfOk result (λ big. big ≡ is_big_job ops.now) }
 {
+    if ops.len() <= FEW_OPS {
+        return Ok(false);
+    }
     let mut seen = ItemList::new(alloc);
     mention_ops(&mut seen, ops)?;
     Ok(64 < ops.len() || 16 < seen.len())
@@ -595,8 +603,56 @@ fn breaks_mapping(thread_mappings: &ThreadMappings, line: &Line) -> bool
     }
 }
 
+/// Returns the least rule that a command breaks which names a buffer and nothing else.
+fn broken_by_plain(progress: &Progress, verb: Verb, b: Option<BufId>) -> Option<u32>
+    requires { progress.now.lens ≤ 67108864 }
+    ensures { result ≡ rule_broken progress.now (Line.Plain verb b) }
+{
+    if b.is_none() {
+        Some(6)
+    } else if MAX_THREAD_LINES <= progress.lines {
+        Some(12)
+    } else {
+        None
+    }
+}
+
+/// Returns the least rule that a line of turns breaks.
+fn broken_by_turn(progress: &Progress, actors: &ActorWords) -> Option<u32>
+    requires { progress.now.lens ≤ 67108864 }
+    ensures { result ≡ rule_broken progress.now (Line.Turn actors.now) }
+{
+    if has_broken_actor(actors.items()) {
+        Some(5)
+    } else if has_missing(actors.items()) {
+        Some(11)
+    } else {
+        None
+    }
+}
+
 /// Returns the least rule from the fifth on that the line breaks, or `None` if it breaks none of them.
 pub fn broken(
+    alloc: Global,
+    names: &Names,
+    thread_mappings: &ThreadMappings,
+    progress: &Progress,
+    line: &Line,
+) -> Result<Option<u32>, NoMemory>
+    requires names { names.now ≡ names_of progress.now.script.buffers }
+    requires lens { progress.now.lens ≤ 67108864 }
+    requires thread_mappings { IsThreadMappings thread_mappings.now (thread_mappings_at_end progress.now.script) }
+    ensures { IfOk result (λ rule. rule ≡ rule_broken progress.now line.now) }
+{
+    match line {
+        Line::Plain { verb, b } => Ok(broken_by_plain(progress, *verb, *b)),
+        Line::Turn { actors } => Ok(broken_by_turn(progress, actors)),
+        _ => broken_of_all(alloc, names, thread_mappings, progress, line),
+    }
+}
+
+/// Returns the same of a line of any kind, by asking for each rule in turn.
+fn broken_of_all(
     alloc: Global,
     names: &Names,
     thread_mappings: &ThreadMappings,

@@ -10,7 +10,8 @@ use Rattle.script_words.specs.Lines.{line_len}
 use Rattle.journal_model.specs.scripts.Words.{Text}
 use Rattle.journal_model.specs.declared.line.Progress.{Progress}
 use Rattle.journal_model.specs.scripts.FirstFault.{after_line, after_words, breaks_text, ends_line, is_line_feed, is_shown, without_end}
-use Rattle.script_text.specs.Fronts.{ends_at, shown_len}
+use Rattle.script_words.specs.Lines.{shown_len}
+use Rattle.script_text.specs.Fronts.{ends_at}
 use Rattle.script_text.proofs.Lines.{line_len-within}
 
 is_hidden : ℕ → Bool

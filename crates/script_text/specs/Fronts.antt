@@ -1,12 +1,7 @@
 -- The front of a line: its bytes before the line feed.
-use Rattle.std.specs.Prelude.{ℕ, Bool, [], ◌∷◌, ◌+◌, ◌&&◌, nat_lt, slice_get, if◌then◌else◌}
+use Rattle.std.specs.Prelude.{ℕ, Bool, ◌&&◌, nat_lt, slice_get}
 use Rattle.journal_model.specs.scripts.Words.{Text}
-use Rattle.journal_model.specs.scripts.FirstFault.{is_shown, is_line_feed}
-
--- how many bytes show before the first that doesn't
-abbrev pub shown_len : Text → ℕ
-shown_len [] = 0
-shown_len (b ∷ bs) = if is_shown b then shown_len bs + 1 else 0
+use Rattle.journal_model.specs.scripts.FirstFault.{is_line_feed}
 
 -- some bytes are there, and a line feed comes after them
 abbrev pub ends_at : Text → ℕ → Bool

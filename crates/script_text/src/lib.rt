@@ -10,7 +10,7 @@ ghost use Rattle.script_text.specs.Steps.{Gives};
 
 use journal_model::Script;
 use script_rules::script_mappings::ThreadMappings;
-use script_words::cut::Words;
+use script_words::cut::{Words, cut_shown_into};
 use script_words::names::Names;
 use std::alloc::Global;
 use ttm_base::NoMemory;
@@ -20,7 +20,7 @@ mod marks;
 mod reader;
 mod values;
 
-use crate::reader::{Known, does_end_at, is_done, shown_len, start, take_front};
+use crate::reader::{Known, does_end_at, is_done, start, take_words};
 
 /// The reason why bytes weren't read: their first broken line, counted from 1, and on it the least broken rule; or memory ran out. Line 0
 /// is the whole text, where it has more than 1,048,576 bytes (rule 1).
@@ -43,14 +43,15 @@ fn read_lines(alloc: Global, bytes: &[u8]) -> Result<Script, ScriptFault>
     let mut line = 0;
     let mut rest = bytes;
     while !rest.is_empty() {
-        let len = shown_len(rest);
+        let Ok(len) = cut_shown_into(&mut words, rest) else {
+            return Err(ScriptFault::NoMemory);
+        };
         line += 1;
         if !does_end_at(rest, len) {
             return Err(ScriptFault::Bad { line, rule: 2 });
         }
-        let (front, _) = rest.split_at(len);
         let (_, after) = rest.split_at(len + 1);
-        match take_front(alloc, &mut words, &mut known, &mut progress, front) {
+        match take_words(alloc, &mut known, &mut progress, words.items()) {
             Ok(None) => rest = after,
             Ok(Some(rule)) => return Err(ScriptFault::Bad { line, rule }),
             Err(NoMemory) => return Err(ScriptFault::NoMemory),

@@ -8,13 +8,12 @@ ghost use Rattle.journal_model.specs.scripts.LineRules.{len_of_word, is_too_long
 ghost use Rattle.journal_model.specs.rules.Commands.{commands_of};
 ghost use Rattle.journal_model.specs.scripts.MarkRules.{thread_mappings_at_end};
 ghost use Rattle.script_rules.specs.script_mappings.ThreadMappingLists.{IsThreadMappings};
-ghost use Rattle.journal_model.specs.scripts.Cut.{cut_at};
-ghost use Rattle.script_text.specs.Fronts.{ends_at, shown_len};
+ghost use Rattle.script_text.specs.Fronts.{ends_at};
 ghost use Rattle.script_text.specs.Steps.{IsSteady, IsKnown, IsClean, IsJudged, HasRanges, Leads, thread_mappings_next};
 
 use crate::marks::{follow, put_access, put_mark_line, put_vsubmit};
 use crate::values::{
-    declared, engine_of, first_of, move_of, plain_of, push_actors, push_ops, push_places,
+    actors_of, declared, engine_of, first_of, move_of, plain_of, push_ops, push_places,
     push_pressed, push_wanted, put_command, read_of, touch_of, write_of, zero_of,
 };
 use journal_model::line::{
@@ -23,12 +22,12 @@ use journal_model::line::{
 };
 use journal_model::{
     Bytes, Command, CommandLists, Commands, Decl, Decls, MarkKind, Marks, Ops, Script, Sizes,
-    TurnLine, TurnLines,
+    TurnLines,
 };
 use script_lines::line;
 use script_rules::script_mappings::ThreadMappings;
 use script_rules::{broken, lens_within};
-use script_words::cut::{Word, Words, cut_into};
+use script_words::cut::Word;
 use script_words::keywords::{can_come, keyword};
 use script_words::names::Names;
 use std::alloc::Global;
@@ -152,8 +151,7 @@ fn lens(left: u64, ops: &[OpWord]) -> u64
 fn put_turn(alloc: Global, progress: &mut Progress, actors: ActorWords) -> Result<(), NoMemory>
     ensures { OnOk result (progress.new ≡ with_line progress.old (Line.Turn actors)) }
 {
-    let mut turns = TurnLine::new(alloc);
-    push_actors(&mut turns, actors.items())?;
+    let turns = actors_of(alloc, actors.items())?;
     progress.script.turns.push(turns)?;
     progress.phase = Phase::Turns;
     Ok(())
@@ -359,20 +357,6 @@ fn accept(
     Ok(())
 }
 
-/// Returns the number of bytes that show before the first that doesn't.
-pub fn shown_len(text: &[u8]) -> usize
-    ensures { result ≡ shown_len text.now }
-{
-    let mut len = 0;
-    for &b in text {
-        if !(32 <= b && b <= 126) {
-            return len;
-        }
-        len += 1;
-    }
-    len
-}
-
 /// Returns whether some bytes, of which there are `len`, are all of a line but its line feed.
 pub fn does_end_at(text: &[u8], len: usize) -> bool
     ensures { result ≡ ends_at text.now len }
@@ -454,8 +438,8 @@ fn take_line(
     }
 }
 
-/// Takes the words of a line, or returns the least rule that they break.
-fn take_words(
+/// Takes the words of a line, or returns the least rule from 3 on that they break.
+pub fn take_words(
     alloc: Global,
     known: &mut Known,
     progress: &mut Progress,
@@ -475,25 +459,6 @@ fn take_words(
         Some(line) => take_line(alloc, known, progress, line),
         None => Ok(Some(4)),
     }
-}
-
-/// Takes a line by its front, all but its line feed, or returns the least rule from 3 on that it breaks. The list `words` is left with what
-/// the line has.
-pub fn take_front<'a>(
-    alloc: Global,
-    words: &mut Words<'a>,
-    known: &mut Known,
-    progress: &mut Progress,
-    front: &'a [u8],
-) -> Result<Option<u32>, NoMemory>
-    requires steady { IsSteady known.old.names progress.old }
-    requires known { IsKnown known.old.thread_mappings progress.old }
-    ensures leads { IfOk result (λ rule. Leads rule progress.new (after_words progress.old (cut_at 32 front.now))) }
-    ensures steady { OnOk result (IsSteady known.new.names progress.new) }
-    ensures known { OnOk result (IsKnown known.new.thread_mappings progress.new) }
-{
-    cut_into(words, b' ', front)?;
-    take_words(alloc, known, progress, words.items())
 }
 
 /// Returns the progress before the first line.

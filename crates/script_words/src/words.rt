@@ -1,7 +1,8 @@
 //! What a word says.
 
-ghost use Rattle.std.specs.Prelude.{◌≡◌, ◌<◌, ◌^◌, ◌*◌, ◌+◌, ◌-◌, ◌==◌, min, IfOk, bytes_eq, length, Some, true, false};
+ghost use Rattle.std.specs.Prelude.{◌≡◌, ◌<◌, ◌^◌, ◌*◌, ◌+◌, ◌-◌, ◌==◌, min, IfOk, bytes_eq, length, Some, None, true, false, if◌then◌else◌};
 ghost use Rattle.std.specs.List.{list_all};
+ghost use Rattle.journal_model.specs.scripts.CommandRules.{is_between};
 ghost use Rattle.journal_model.specs.scripts.Cut.{is_semicolon};
 ghost use Rattle.journal_model.specs.scripts.Reading.{is_digit, has_no_leading_zero, is_plain, read_on, number_in, group_of, offset_of, address_of, is_hex, hex_value, bytes_in_hex, byte_in_hex, mem_of, engine_word_of, actor_of, thread_actor, engine_actor};
 
@@ -49,10 +50,16 @@ pub fn is_lone_semicolon(word: &Word) -> bool
     is(word.items(), b";")
 }
 
+fn is_decimal_digit(c: u8) -> bool
+    ensures { result ≡ is_digit c }
+{
+    b'0' <= c && c <= b'9'
+}
+
 fn are_digits(word: &[u8]) -> bool
     ensures { result ≡ list_all is_digit word.now }
 {
-    word.iter().all(|c| b'0' <= *c && *c <= b'9')
+    word.iter().all(|c| is_decimal_digit(*c))
 }
 
 fn lacks_leading_zero(word: &[u8]) -> bool
@@ -71,26 +78,49 @@ pub fn is_plain_number(word: &[u8]) -> bool
     lacks_leading_zero(word) && are_digits(word)
 }
 
-/// Returns the number that `word`, a word of digits, tells. Numbers above 2^40 count as that.
-fn value_of(word: &[u8]) -> u64
-    ensures { result ≡ min (read_on 0 word.now) 1099511627776 }
+/// Returns the number that the digits of `word` tell, or `None` where a byte is no digit. Numbers above 2^40 count as that.
+fn value_of(word: &[u8]) -> Option<u64>
+    ensures { result ≡ (if list_all is_digit word.now then Some (min (read_on 0 word.now) 1099511627776) else None) }
 {
     let mut n = 0;
     for &c in word {
+        if !is_decimal_digit(c) {
+            return None;
+        }
         n = (10 * n + u64::from(c.saturating_sub(b'0'))).min(MOST);
     }
-    n
+    Some(n)
+}
+
+/// Returns the number that `word` tells in plain decimals, or `None` if it isn't plain. Numbers above 2^40 count as that.
+fn plain_value(word: &[u8]) -> Option<u64>
+    ensures { result ≡ (if is_plain word.now then Some (min (read_on 0 word.now) 1099511627776) else None) }
+{
+    if lacks_leading_zero(word) {
+        value_of(word)
+    } else {
+        None
+    }
+}
+
+/// Returns `n` if it is from `low` to `high`.
+fn within(low: u32, high: u32, n: u64) -> Option<u32>
+    ensures { result ≡ (if is_between low high n then Some n else None) }
+{
+    if u64::from(low) <= n && n <= u64::from(high) {
+        Some(n as u32)
+    } else {
+        None
+    }
 }
 
 /// Returns the number that `word` tells, if it is plain and from `low` to `high`.
 pub fn number(low: u32, high: u32, word: &[u8]) -> Option<u32>
     ensures { result ≡ number_in low high word.now }
 {
-    let n = value_of(word);
-    if is_plain_number(word) && u64::from(low) <= n && n <= u64::from(high) {
-        Some(n as u32)
-    } else {
-        None
+    match plain_value(word) {
+        Some(n) => within(low, high, n),
+        None => None,
     }
 }
 
@@ -170,10 +200,10 @@ pub fn memory(word: &[u8]) -> Option<Mem>
 pub fn engine(engines: u32, word: &[u8]) -> EngineWord
     ensures { result ≡ engine_word_of engines word.now }
 {
-    if !is_plain_number(word) {
+    let Some(n) = plain_value(word) else {
         return EngineWord::BrokenNumber;
-    }
-    match number(1, engines, word) {
+    };
+    match within(1, engines, n) {
         Some(n) => EngineWord::Is(n),
         None => EngineWord::Missing,
     }
@@ -182,10 +212,10 @@ pub fn engine(engines: u32, word: &[u8]) -> EngineWord
 fn thread_word(threads: u32, word: &[u8]) -> ActorWord
     ensures { result ≡ thread_actor threads word.now }
 {
-    if !is_plain_number(word) {
+    let Some(n) = plain_value(word) else {
         return ActorWord::BrokenNumber;
-    }
-    match number(1, threads, word) {
+    };
+    match within(1, threads, n) {
         Some(n) => ActorWord::Is(Actor::Thread(n)),
         None => ActorWord::Missing,
     }
@@ -194,10 +224,10 @@ fn thread_word(threads: u32, word: &[u8]) -> ActorWord
 fn engine_word(engines: u32, word: &[u8]) -> ActorWord
     ensures { result ≡ engine_actor engines word.now }
 {
-    if !is_plain_number(word) {
+    let Some(n) = plain_value(word) else {
         return ActorWord::BrokenNumber;
-    }
-    match number(0, engines, word) {
+    };
+    match within(0, engines, n) {
         Some(n) => ActorWord::Is(Actor::Engine(n)),
         None => ActorWord::Missing,
     }

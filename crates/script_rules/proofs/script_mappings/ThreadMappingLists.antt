@@ -1,6 +1,6 @@
 -- A thread_mappings after a mark is the same in the code and in the definitions.
 use Rattle.std.proofs.Common.{◌≡◌, ℕ, Bool, true, false, List, [], ◌∷◌, refl, ap, sym, ◌∙◌, inl, inr}
-use Rattle.std.specs.Prelude.{◌||◌, ◌==◌, not, filter, if◌then◌else◌}
+use Rattle.std.specs.Prelude.{◌||◌, ◌==◌, if◌then◌else◌}
 use Rattle.std.proofs.lemmas.Bool.{cases_Bool, eqb-true, eqb-false, eq-eqb, ne_eqb}
 use Rattle.ttm_base.specs.declared.BufId.{BufId}
 use Rattle.journal_model.specs.declared.script.MarkKind.TheVariants as mark

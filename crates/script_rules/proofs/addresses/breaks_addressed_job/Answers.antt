@@ -1,10 +1,10 @@
-use Rattle.std.proofs.Common.{◌≡◌, Bool, map, ap, sym, ◌∙◌}
+use Rattle.std.proofs.Common.{◌≡◌, Bool, ap, ◌∙◌}
 use Rattle.std.specs.Prelude.{IfOk, not}
 use Rattle.std.specs.List.{list_any}
 use Rattle.std.proofs.Common.{subst}
 use Rattle.journal_model.specs.marks.ByName.{job_by_name}
 use Rattle.journal_model.specs.scripts.MarkRules.{has_apart_ranges}
-use Rattle.journal_model.specs.scripts.LineRules.{vop_in, is_big_named_job}
+use Rattle.journal_model.specs.scripts.LineRules.{is_big_named_job}
 use Rattle.script_rules.proofs.AddressLaws.{ops_inside, twice_told, big_told}
 use Rattle.script_rules.proofs.addresses.breaks_addressed_job.Goals as goal
 
