@@ -5,4 +5,3 @@ pub mod BufferSearched
 pub mod Finds
 pub mod ListLaws
 pub mod RestLaws
-pub mod WalkLaws

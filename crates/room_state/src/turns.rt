@@ -12,7 +12,7 @@ pub use buffer_searches::{
 };
 use journal_model::{Entry, Kind};
 use ttm_base::{Actor, Need, NoMemory};
-pub use walk::Walk;
+pub use walk::{BufferTest, first_passing};
 
 /// The answer to an actor's turn.
 #[derive(Clone, Copy)]
