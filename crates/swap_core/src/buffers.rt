@@ -1,4 +1,4 @@
-ghost use Rattle.std.specs.Prelude.{◌≡◌, ◌&&◌, find, option_copied};
+ghost use Rattle.std.specs.Prelude.{◌≡◌, ◌&&◌, option_copied};
 ghost use Rattle.ttm_base.specs.declared.Mem.TheVariants.{Vram};
 ghost use Rattle.ttm_base.specs.Reach.{same_mem};
 ghost use Rattle.journal_model.specs.rules.State.{buffer, reservation};
@@ -7,7 +7,7 @@ ghost use Rattle.room_state.specs.turns.Turns.{state_behind};
 ghost use Rattle.swap_core.specs.Lent.{IsLent};
 
 use bo_table::Bo;
-use room_state::turns::{Rooms, Walk};
+use room_state::turns::{BufferTest, Rooms, first_passing};
 use state_words::is_loose;
 use ttm_base::{BufId, Mem};
 
@@ -44,36 +44,32 @@ pub fn has_frame_in_vram(rooms: &Rooms, b: BufId) -> bool
     }
 }
 
-/// Returns whether buffer `b` may give its frames to swap: it is neither pinned nor reserved, and has a frame.
-fn is_swappable(rooms: &Rooms, b: BufId) -> bool
-    ensures { result ≡ (words.is_loose (reservation (state_behind rooms.now) b) && words.has_frame (buffer (state_behind rooms.now) b)) }
-{
-    match live(rooms, b) {
-        Some(bo) => is_loose(bo.reservation()) && bo.table.has_frame(),
-        None => false,
-    }
+/// The test for a buffer that may give its frames to swap: it has a frame, and is neither pinned nor reserved.
+#[derive(Drop)]
+struct Swappable<'a> {
+    rooms: &'a Rooms,
 }
 
-/// Returns the first buffer of `walk` that may give its frames to swap.
-fn first_swappable(rooms: &Rooms, walk: Walk) -> Option<BufId>
-    ensures { result ≡ find (λ b. words.is_loose (reservation (state_behind rooms.now) b) && words.has_frame (buffer (state_behind rooms.now) b)) walk.entry }
-{
-    for b in walk {
-        if is_swappable(rooms, b) {
-            return Some(b);
+impl<'a> BufferTest for Swappable<'a> {
+    ghost accepts = { λ t b. words.is_loose (reservation (state_behind t.rooms.now) b) && words.has_frame (buffer (state_behind t.rooms.now) b) };
+
+    fn passes(&self, b: BufId) -> bool {
+        match live(self.rooms, b) {
+            Some(bo) => bo.table.has_frame() && is_loose(bo.reservation()),
+            None => false,
         }
     }
-    None
 }
 
 /// Returns the first buffer that may give its frames to swap: in SYSTEM by priority, then in TT (ttm_device_swapout).
 pub(crate) fn swap_victim(rooms: &Rooms) -> Option<BufId>
     ensures { result ≡ words.swap_victim (state_behind rooms.now) }
 {
+    let test = Swappable { rooms };
     let lru = rooms.lru();
-    let first = first_swappable(rooms, Walk::new(lru, Mem::System));
+    let first = first_passing(lru, Mem::System, &test);
     if first.is_some() {
         return first;
     }
-    first_swappable(rooms, Walk::new(lru, Mem::Tt))
+    first_passing(lru, Mem::Tt, &test)
 }
