@@ -5,7 +5,6 @@ use Rattle.std.proofs.lemmas.Bool.Decides.{nat_tests}
 use Rattle.std.proofs.lemmas.Grind.{common_steps}
 use Rattle.std.proofs.lemmas.List.{take_more, get_or-set_other, get_or-set_same}
 use Rattle.ttm_base.specs.declared.BufId.{BufId}
-use Rattle.ttm_base.specs.declared.Place.{Place}
 use Rattle.ttm_base.specs.declared.Mem.{Mem}
 use Rattle.ttm_base.specs.declared.Mem.TheVariants.{System}
 use Rattle.ttm_base.specs.declared.Span.{Span}
@@ -16,9 +15,8 @@ use Rattle.bo_table.proofs.TableLaws.{get_map}
 use Rattle.journal_model.specs.declared.script.Script.{Script}
 use Rattle.journal_model.specs.declared.state.State.{State}
 use Rattle.journal_model.specs.declared.state.Buffer.{Buffer}
-use Rattle.journal_model.specs.rules.State.{buffer, reservation, live_in, reservation_in, has_buffer, same_buffer, no_reservation}
-use Rattle.journal_model.specs.rules.Choice.{reach_of}
-use Rattle.journal_model.specs.rules.Dry.{is_evictable, is_loose}
+use Rattle.journal_model.specs.rules.State.{reservation, live_in, reservation_in, has_buffer, same_buffer, no_reservation}
+use Rattle.journal_model.specs.rules.Dry.{is_loose}
 use Rattle.room_representation.specs.Bos.{AreBos, unfenced}
 use Rattle.evict_core.specs.Walks.{stands_in, was_skipped, is_evictable_in, AreMarks}
 

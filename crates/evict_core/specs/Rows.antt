@@ -1,5 +1,5 @@
 -- Which buffers and ghosts keep pages of a place, as the table of buffers and the ghosts tell it.
-use Rattle.std.specs.Prelude.{Bool, List, [], Option, Some, None, ◌&&◌, ◌||◌, if◌then◌else◌, is_some, find}
+use Rattle.std.specs.Prelude.{◌≡◌, ℕ, Bool, List, [], Option, Some, None, ◌&&◌, ◌||◌, if◌then◌else◌, is_some, find, slice_get}
 use Rattle.ttm_base.specs.declared.BufId.{BufId}
 use Rattle.ttm_base.specs.declared.Mem.{Mem}
 use Rattle.ttm_base.specs.declared.Mem.TheVariants.{System, Tt, Vram}
@@ -11,6 +11,8 @@ use Rattle.bo_table.specs.Seen.{reservation_of}
 use Rattle.journal_model.specs.declared.script.Script.{Script}
 use Rattle.journal_model.specs.declared.state.Buffer.{Buffer}
 use Rattle.journal_model.specs.declared.entry.CauseRow.{CauseRow}
+use Rattle.journal_model.specs.declared.state.Ghost as state
+use Rattle.journal_model.specs.rules.Holds as holds
 use Rattle.journal_model.specs.rules.State.{target_of}
 use Rattle.journal_model.specs.rules.Dry.{cause_of}
 use Rattle.room_representation.specs.declared.parts.Ghost.{Ghost}
@@ -40,3 +42,7 @@ holds_in mem within g = intersects (ghost_spans mem g) within
 -- the first ghost that holds pages of `within` in the memory type
 abbrev pub ghost_in : Mem → Span → List Ghost → Option Ghost
 ghost_in mem within gs = find (holds_in mem within) gs
+
+-- none of the state's ghosts holds pages of the memory type
+abbrev pub HoldNone : Mem → List state.Ghost → Type 0
+HoldNone mem gs = (i : ℕ) (g : state.Ghost) → slice_get gs i ≡ Some g → holds.ghost_spans mem g ≡ []

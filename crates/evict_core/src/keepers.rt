@@ -1,10 +1,11 @@
-ghost use Rattle.std.specs.Prelude.{◌≡◌, IfOk, option_map};
+ghost use Rattle.std.specs.Prelude.{◌≡◌, false, IfOk, option_map};
 ghost use Rattle.journal_model.specs.rules.Dry as words;
 ghost use Rattle.room_state.specs.turns.Turns.{state_behind};
 ghost use Rattle.evict_core.specs.Rows as rows_of;
 
 use bo_table::Bo;
 use journal_model::{CauseRow, Causes, Script};
+use resource_core::Manager;
 use room_representation::Ghost;
 use room_state::turns::Rooms;
 use state_words::{cause_of, intersects, reach_of, same_mem, target_of};
@@ -39,10 +40,29 @@ fn number_in(ghosts: &[Ghost], mem: Mem, within: Span) -> Option<u64>
     }
 }
 
+/// Returns whether ghosts hold pages of the memory type `mem`, by the count of its manager. Takes time by what is held there, however many
+/// ghosts there are elsewhere.
+fn ghosts_hold(rooms: &Rooms, mem: Mem) -> bool
+    ensures { result ≡ false → rows_of.HoldNone mem (state_behind rooms.now).core.ghosts }
+{
+    let parts = rooms.parts();
+    if parts.ghosts.items().is_empty() {
+        return false;
+    }
+    match mem {
+        Mem::System => false,
+        Mem::Tt => parts.tt.lengths().ghosts > 0,
+        Mem::Vram => parts.vram.lengths().ghosts > 0,
+    }
+}
+
 /// Returns the number of the first ghost that holds a page that `place` reaches, or None where none does.
 pub(crate) fn ghost_in(rooms: &Rooms, place: Place) -> Option<u64>
     ensures { result ≡ option_map (λ g. g.num) (words.ghost_in rooms.now.script (state_behind rooms.now) place) }
 {
+    if !ghosts_hold(rooms, place.mem) {
+        return None;
+    }
     number_in(rooms.ghosts(), place.mem, reach_of(rooms.script(), place))
 }
 

@@ -27,14 +27,13 @@ fn first_on_list<T: BufferTest>(lru: &Lru, mem: Mem, prio: u32, test: &T) -> Opt
     ensures { result ≡ find (T.accepts test.now) (list_at lru.now.lists (list_number mem prio)) }
 {
     lru.members_stand_once();
-    let mut at = lru.first(mem, prio);
-    while let Some(b) = at {
+    let mut b = lru.first(mem, prio)?;
+    loop {
         if test.passes(b) {
             return Some(b);
         }
-        at = lru.next(b);
+        b = lru.next(b)?;
     }
-    None
 }
 
 /// Returns the first buffer of the memory type `mem` that passes `test`, priority 0 first. Each buffer before it costs a constant, beside its

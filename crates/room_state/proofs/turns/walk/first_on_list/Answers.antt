@@ -1,19 +1,28 @@
-use Rattle.std.proofs.Common.{find, refl, sym, ◌∙◌, ap}
-use Rattle.lru_bulk.specs.Lists.{list_at, list_number}
-use Rattle.room_state.specs.turns.Rests.{left_from}
-use Rattle.room_state.proofs.turns.RestLaws.{AreSound, first_left, first_on, next_asks, next_left, next_on, one_longer, find_here, find_past}
+use Rattle.std.proofs.Common.{None, Some, find, refl, sym, ◌∙◌, ap}
+use Rattle.lru_bulk.specs.Lists.{list_number}
+use Rattle.room_state.proofs.turns.RestLaws.{AreSound, first_left, first_on, next_left, next_on, one_longer, find_here, find_past}
 use Rattle.room_state.proofs.turns.walk.first_on_list.Goals as goal
 
-pub loop-at-init : goal.loop-at-init
-loop-at-init g c =
+pub returns-in_err-b : goal.returns-in_err-b
+returns-in_err-b g c =
     let sound : AreSound c.args.lru.now = record {
       listed = c.members_stand_once.ensures.listed;
       once = c.members_stand_once.ensures.once;
       distinct = c.members_stand_once.ensures.distinct;
-    } in (
-      ap (find (g.T.BufferTest.accepts c.args.test.now)) (first_left c.args.lru.now (list_number c.args.mem c.args.prio) sound c.first-at.result c.first-at.ensures),
-      first_on c.args.lru.now (list_number c.args.mem c.args.prio) sound c.first-at.result c.first-at.ensures,
-    )
+    } in
+    c.from_residual.ensures
+    ∙ ap (find (g.T.BufferTest.accepts c.args.test.now)) (first_left c.args.lru.now (list_number c.args.mem c.args.prio) sound None (sym c.in_err-b.was ∙ c.first.ensures))
+
+pub loop-b-init : goal.loop-b-init
+loop-b-init g c =
+    let sound : AreSound c.args.lru.now = record {
+      listed = c.members_stand_once.ensures.listed;
+      once = c.members_stand_once.ensures.once;
+      distinct = c.members_stand_once.ensures.distinct;
+    } in
+    let i = list_number c.args.mem c.args.prio in
+    let first = sym c.in_ok-b.was ∙ c.first.ensures in
+    (ap (find (g.T.BufferTest.accepts c.args.test.now)) (first_left c.args.lru.now i sound (Some c.in_ok-b.b) first), first_on c.args.lru.now i sound (Some c.in_ok-b.b) first c.in_ok-b.b refl)
 
 pub returns-then-passes : goal.returns-then-passes
 returns-then-passes g c =
@@ -22,41 +31,38 @@ returns-then-passes g c =
       once = c.members_stand_once.ensures.once;
       distinct = c.members_stand_once.ensures.distinct;
     } in
-    let i = list_number c.args.mem c.args.prio in
-    let on = c.loop-at.invariant.1 c.in-Some.b c.in-Some.is in
-    let goes = ap (λ q. left_from q (list_at c.args.lru.now.lists i)) c.in-Some.is ∙ next_left c.args.lru.now i sound c.in-Some.b on _ refl in
-    sym (find_here (g.T.BufferTest.accepts c.args.test.now) _ _ c.in-Some.b goes (sym c.passes.ensures ∙ c.if-passes.true)) ∙ c.loop-at.invariant.0
+    let goes = next_left c.args.lru.now (list_number c.args.mem c.args.prio) sound c.loop-b.b c.loop-b.invariant.1 _ refl in
+    sym (find_here (g.T.BufferTest.accepts c.args.test.now) _ _ c.loop-b.b goes (sym c.passes.ensures ∙ c.if-passes.true)) ∙ c.loop-b.invariant.0
 
-pub next-at-requires : goal.next-at-requires
-next-at-requires g c =
+pub returns-in_err-b-2 : goal.returns-in_err-b-2
+returns-in_err-b-2 g c =
     let sound : AreSound c.args.lru.now = record {
       listed = c.members_stand_once.ensures.listed;
       once = c.members_stand_once.ensures.once;
       distinct = c.members_stand_once.ensures.distinct;
     } in
-    next_asks c.args.lru.now (list_number c.args.mem c.args.prio) sound c.in-Some.b (c.loop-at.invariant.1 c.in-Some.b c.in-Some.is)
+    let goes = next_left c.args.lru.now (list_number c.args.mem c.args.prio) sound c.loop-b.b c.loop-b.invariant.1 None (sym c.in_err-b-2.was ∙ c.next.ensures) in
+    c.from_residual-in_err-b-2.ensures ∙ find_past (g.T.BufferTest.accepts c.args.test.now) _ _ c.loop-b.b goes (sym c.passes.ensures ∙ c.if-passes.false) ∙ c.loop-b.invariant.0
 
-pub loop-at-smaller : goal.loop-at-smaller
-loop-at-smaller g c =
+pub loop-b-smaller : goal.loop-b-smaller
+loop-b-smaller g c =
     let sound : AreSound c.args.lru.now = record {
       listed = c.members_stand_once.ensures.listed;
       once = c.members_stand_once.ensures.once;
       distinct = c.members_stand_once.ensures.distinct;
     } in
-    let i = list_number c.args.mem c.args.prio in
-    let on = c.loop-at.invariant.1 c.in-Some.b c.in-Some.is in
-    one_longer _ _ c.in-Some.b (ap (λ q. left_from q (list_at c.args.lru.now.lists i)) c.in-Some.is ∙ next_left c.args.lru.now i sound c.in-Some.b on c.next-at.result c.next-at.ensures)
+    one_longer _ _ c.loop-b.b (next_left c.args.lru.now (list_number c.args.mem c.args.prio) sound c.loop-b.b c.loop-b.invariant.1 (Some c.in_ok-b-2.b) (sym c.in_ok-b-2.was ∙ c.next.ensures))
 
-pub loop-at-preserved : goal.loop-at-preserved
-loop-at-preserved g c =
+pub loop-b-preserved : goal.loop-b-preserved
+loop-b-preserved g c =
     let sound : AreSound c.args.lru.now = record {
       listed = c.members_stand_once.ensures.listed;
       once = c.members_stand_once.ensures.once;
       distinct = c.members_stand_once.ensures.distinct;
     } in
     let i = list_number c.args.mem c.args.prio in
-    let on = c.loop-at.invariant.1 c.in-Some.b c.in-Some.is in
-    let goes = ap (λ q. left_from q (list_at c.args.lru.now.lists i)) c.in-Some.is ∙ next_left c.args.lru.now i sound c.in-Some.b on c.next-at.result c.next-at.ensures in (
-      find_past (g.T.BufferTest.accepts c.args.test.now) _ _ c.in-Some.b goes (sym c.passes.ensures ∙ c.if-passes.false) ∙ c.loop-at.invariant.0,
-      next_on c.args.lru.now i sound c.in-Some.b on c.next-at.result c.next-at.ensures,
+    let next = sym c.in_ok-b-2.was ∙ c.next.ensures in
+    let goes = next_left c.args.lru.now i sound c.loop-b.b c.loop-b.invariant.1 (Some c.in_ok-b-2.b) next in (
+      find_past (g.T.BufferTest.accepts c.args.test.now) _ _ c.loop-b.b goes (sym c.passes.ensures ∙ c.if-passes.false) ∙ c.loop-b.invariant.0,
+      next_on c.args.lru.now i sound c.loop-b.b c.loop-b.invariant.1 (Some c.in_ok-b-2.b) next c.in_ok-b-2.b refl,
     )
