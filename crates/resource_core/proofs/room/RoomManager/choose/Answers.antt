@@ -1,5 +1,4 @@
-use Rattle.std.proofs.Common.{◌≡◌, ap, sym, refl, subst, ◌∙◌, Err}
-use Rattle.std.proofs.lemmas.Result.{err_from_is_err_and}
+use Rattle.std.proofs.Common.{◌≡◌, ap, sym, subst, ◌∙◌, Err}
 use Rattle.ttm_base.specs.Holes.{is_free_beside}
 use Rattle.resource_core.specs.Tied.{FindsNoRoom}
 use Rattle.resource_core.specs.declared.manager.TakeFault.TheVariants.{NoRoom}
