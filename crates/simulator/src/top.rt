@@ -18,6 +18,7 @@ use program_edges::{Status, status_after};
 use report_text::WriteFault;
 use sim_drive::{Device, drive, turn_limit};
 use std::alloc::Global;
+use std::mem::ManuallyDrop;
 use ttm_base::NoMemory;
 
 /// Runs `script` for `turns` turns, or up to its limit where none are given.
@@ -101,7 +102,8 @@ pub fn tell_outcome<S: Source, K: Sink>(
 }
 
 /// Does what the command line asks: runs the script that `source` gives and writes the report of what it did to `sink`, or judges the report that
-/// follows the script and writes the verdict. Returns the exit status.
+/// follows the script and writes the verdict. Returns the exit status. The outcome isn't dropped: the program ends, and its memory goes back
+/// as a whole.
 pub fn sim_top<S: Source, K: Sink>(
     alloc: Global,
     words: &Words,
@@ -113,7 +115,11 @@ pub fn sim_top<S: Source, K: Sink>(
         (record { before = K.written sink.old; after = K.written sink.new; faults_before = K.faults sink.old; faults_after = K.faults sink.new }) result }
 {
     match tell_outcome(alloc, words, source, sink) {
-        Ok(Told { outcome, written }) => status_after(outcome.status(), written),
+        Ok(Told { outcome, written }) => {
+            let status = outcome.status();
+            let _kept = ManuallyDrop::new(outcome);
+            status_after(status, written)
+        }
         Err(NoMemory) => Status::NoMemory,
     }
 }

@@ -123,8 +123,8 @@ fn buffers_pages_and_places_of_commands(rt: HostRuntime) {
     let rt = &rt;
     let alloc = rt.alloc();
     are(rt, without_buffer(alloc, NAMED, A), &[B]);
-    ensure(rt, named(&Command::Pin { b: B }) == &[B]);
-    ensure(rt, named(&job_of_ops(rt, alloc, OPS)) == &[B, A]);
+    ensure(rt, named(&Command::Pin { b: B }) == [B].as_slice());
+    ensure(rt, named(&job_of_ops(rt, alloc, OPS)) == [B, A].as_slice());
     let buffer = read_buffer(rt, alloc);
     are(rt, frames_of(alloc, &buffer), &[0]);
     let script = script_of(rt, alloc, SCRIPT);

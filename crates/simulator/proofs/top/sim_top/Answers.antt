@@ -13,7 +13,7 @@ returns-in-Ok g c =
     let source : Edge = record { before = g.S.Source.left c.args.source.now; after = g.S.Source.left c.tell_outcome.new.source; faults_before = g.S.Source.faults c.args.source.now; faults_after = g.S.Source.faults c.tell_outcome.new.source } in
     let sink : Edge = record { before = g.K.Sink.written c.args.sink.now; after = g.K.Sink.written c.tell_outcome.new.sink; faults_before = g.K.Sink.faults c.args.sink.now; faults_after = g.K.Sink.faults c.tell_outcome.new.sink } in
     subst (λ (s : Status). Ends (form_of c.args.words.now) source sink s)
-    (sym (c.status_after.ensures ∙ ap (λ s. status_after s c.in-Ok.field-0.written) c.status.ensures))
+    (sym (c.status_after.ensures ∙ ap (λ s. status_after s c.in-Ok.field-0.written) c.status-status.ensures))
     (ends_well (form_of c.args.words.now) source sink _
     (ends_after (ComesWell (form_of c.args.words.now) source) source sink _ c.in-Ok.field-0.written
     (c.in-Ok.ensures.comes, well (form_of c.args.words.now) source _ c.in-Ok.ensures.comes) c.in-Ok.ensures.text c.in-Ok.ensures.faults))
